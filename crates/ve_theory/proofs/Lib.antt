@@ -1,0 +1,24 @@
+-- Lemmas that several proofs share.
+pub mod AnswerKernels
+pub mod DerivationTrees
+pub mod DerivedElements
+pub mod Evaluation
+pub mod FinishedLevels
+pub mod FiniteOrders
+pub mod Grown
+pub mod Halves
+pub mod Independence
+pub mod InverseLetters
+pub mod Inverses
+pub mod Kernels
+pub mod LevelBounds
+pub mod Members
+pub mod OrderedRows
+pub mod Orders
+pub mod Products
+pub mod Reduced
+pub mod RelatorReaches
+pub mod Remainders
+pub mod RisingLists
+pub mod Sums
+pub mod UniqueAnswers

@@ -1,0 +1,178 @@
+-- What holds of the definitions. Each law is the contract of the function of its name.
+use Rattle.std.specs.Prelude.{◌≡◌, ℕ, ◌+◌, ◌*◌, ◌<◌, ◌≤◌, ◌⊎◌, ◌↔◌, List, [], ◌∷◌, ◌++◌, All, AllPairs, Contains, nat_eq}
+use Rattle.ve_theory.specs.Residues.{IsFieldPrime, Congruent}
+use Rattle.ve_theory.specs.Combinations.{scaled, coefficient, Alike, IsReduced}
+use Rattle.ve_theory.specs.Words.{Word, generator, times, same_word, same_letters, Shortlex, ShortlexLetters, Weighted}
+use Rattle.ve_theory.specs.Elements.{AlgebraElement, Element, product, element_times, halved, IsAlgebraElementOf}
+use Rattle.ve_theory.specs.Presentations.{Presentation, IsPresentation, IsWord, relator, submodule_relation, step, reach, relator_reach, element_reach, before, greatest_step, relator_bound, submodule_bound}
+use Rattle.ve_theory.specs.Derivations.{Derived, DerivedWithin}
+use Rattle.ve_theory.specs.Levels.{IsNormal, IsLeast, Lists, HasSize, Closes, IsClosingLevel}
+use Rattle.ve_theory.specs.Answers.{Row, Action, Answer, HasShape, HasPlacedRows, IsGrown, HasDerivedRows, IsOrdered, IsModuleAnswer, IsAnswer, IsQuotient, MeetsRelations, evaluation, IsZeroRow}
+use Rattle.ve_theory.specs.FinishedLevels.{IsFinishedLevel}
+
+-- residues
+
+-- each residue other than 0 has an inverse
+abbrev pub HasInverses : Type 0
+HasInverses = (p a : ℕ) → IsFieldPrime p → 0 < a → a < p → (b : ℕ) × (b < p) × Congruent p (a * b) 1
+
+-- reach and order
+
+-- a word without letters has reach 0; a letter adds its step
+abbrev pub ReachAddsUp : Type 0
+ReachAddsUp = (P : Presentation) → ((i : ℕ) → reach P (generator i) ≡ 0) × ((w : Word) (x : ℕ) → reach P (times w x) ≡ reach P w + step P x)
+
+-- steps are positive, and no step or relator reaches further than the bound of relators, no submodule relation further than its bound
+pub record HasBounds (P : Presentation) : Type 0 where
+  pub positive : (x : ℕ) → 0 < step P x
+  pub steps : (x : ℕ) → step P x ≤ greatest_step P
+  pub greatest : greatest_step P ≤ relator_bound P
+  pub relators : (number : ℕ) → relator_reach P (relator P number) ≤ relator_bound P
+  pub submodule : (number : ℕ) → element_reach P (submodule_relation P number) ≤ submodule_bound P
+
+abbrev pub ReachesAreBounded : Type 0
+ReachesAreBounded = (P : Presentation) → IsPresentation P → HasBounds P
+
+-- a strict total order, in which a word of smaller reach comes first
+pub record IsTotalOrder (P : Presentation) : Type 0 where
+  pub irreflexive : (v : Word) → ¬ before P v v
+  pub transitive : (u v w : Word) → before P u v → before P v w → before P u w
+  pub total : (v w : Word) → before P v w ⊎ (v ≡ w) ⊎ before P w v
+  pub by_reach : (v w : Word) → reach P v < reach P w → before P v w
+
+abbrev pub WordsAreOrdered : Type 0
+WordsAreOrdered = (P : Presentation) → IsPresentation P → IsTotalOrder P
+
+-- a letter on the right keeps the order
+abbrev pub LettersKeepOrder : Type 0
+LettersKeepOrder = (P : Presentation) (v w : Word) (x : ℕ) → before P v w → before P (times v x) (times w x)
+
+-- only finitely many words are before a word
+abbrev pub FinitelyManyBefore : Type 0
+FinitelyManyBefore = (P : Presentation) (w : Word) → IsPresentation P → (ws : List Word) × ((v : Word) → IsWord P v → before P v w → Contains ws v)
+
+-- with equal weights the weighted order is shortlex
+abbrev pub EqualWeightsAreShortlex : Type 0
+EqualWeightsAreShortlex = (weights : List ℕ) (v w : Word) → All (λ s. s ≡ 1) weights → (Weighted weights v w ↔ Shortlex v w)
+
+-- elements
+
+-- a sum adds coefficients, a scaling multiplies them
+abbrev pub SumsAddCoefficients : Type 0
+SumsAddCoefficients =
+    ((u v : Element) (w : Word) → coefficient same_word (u ++ v) w ≡ coefficient same_word u w + coefficient same_word v w)
+    × ((c : ℕ) (v : Element) (w : Word) → coefficient same_word (scaled c v) w ≡ c * coefficient same_word v w)
+
+-- products of alike elements are alike
+abbrev pub ProductsOfAlike : Type 0
+ProductsOfAlike =
+    ((p : ℕ) (u v r s : AlgebraElement) → Alike same_letters p u v → Alike same_letters p r s → Alike same_letters p (product u r) (product v s))
+    × ((p : ℕ) (u v : Element) (r s : AlgebraElement) → Alike same_word p u v → Alike same_letters p r s → Alike same_word p (element_times u r) (element_times v s))
+
+-- there is one reduced list of terms for a sum
+pub record ReducedListsAreUnique : Type 0 where
+  pub elements : (p : ℕ) (u v : Element) → IsReduced Shortlex p u → IsReduced Shortlex p v → Alike same_word p u v → u ≡ v
+  pub algebra : (p : ℕ) (u v : AlgebraElement) → IsReduced ShortlexLetters p u → IsReduced ShortlexLetters p v → Alike same_letters p u v → u ≡ v
+  pub rows : (p : ℕ) (u v : Row) → IsReduced ◌<◌ p u → IsReduced ◌<◌ p v → Alike nat_eq p u v → u ≡ v
+
+-- derivations
+
+-- what is derived within a level is derived within each higher one, and derived; what is derived is derived within some level
+pub record LevelsGrow : Type 0 where
+  pub higher : (P : Presentation) (j k : ℕ) (v : Element) → j ≤ k → DerivedWithin P j v → DerivedWithin P k v
+  pub derived : (P : Presentation) (k : ℕ) (v : Element) → DerivedWithin P k v → Derived P v
+  pub some_level : (P : Presentation) (v : Element) → Derived P v → (k : ℕ) × DerivedWithin P k v
+
+-- each word of the element is one of the presentation's
+abbrev pub IsElement : Presentation → Element → Type 0
+IsElement P v = All (λ t. IsWord P t.0) v
+
+-- quotients
+
+-- an action that meets the relations is one of the presented module
+abbrev pub RelationsMakeQuotients : Type 0
+RelationsMakeQuotients = (P : Presentation) (A : Answer) → IsPresentation P → HasShape P A → HasPlacedRows P A.action → MeetsRelations P A.action → IsQuotient P A
+
+-- where moreover its rows are derived, an element is derived exactly where it evaluates to zero
+abbrev pub DerivedExactlyWhereZero : Type 0
+DerivedExactlyWhereZero =
+    (P : Presentation) (A : Action) → IsPresentation P → HasPlacedRows P A → MeetsRelations P A → HasDerivedRows P A
+    → (v : Element) → IsElement P v → (Derived P v ↔ IsZeroRow P.prime (evaluation A v))
+
+-- where moreover they are ordered, and the basis has words of the presentation, the basis lists the least words
+abbrev pub OrderedBasisIsLeast : Type 0
+OrderedBasisIsLeast =
+    (P : Presentation) (A : Action) → IsPresentation P → MeetsRelations P A → HasDerivedRows P A → IsOrdered P A
+    → All (IsWord P) A.basis → Lists P (IsLeast P) A.basis
+
+-- The module's answer meets the relations, and an element is derived exactly where it evaluates to zero.
+pub record DecidesModule (P : Presentation) (A : Action) : Type 0 where
+  pub meets : MeetsRelations P A
+  pub kernel : (v : Element) → IsElement P v → (Derived P v ↔ IsZeroRow P.prime (evaluation A v))
+
+abbrev pub AnswersDecide : Type 0
+AnswersDecide = (P : Presentation) (A : Answer) → IsPresentation P → IsModuleAnswer P A → DecidesModule P A.action
+
+-- levels
+
+-- each word of the element is one of the presentation's, of reach at most k
+abbrev pub IsElementUpTo : Presentation → ℕ → Element → Type 0
+IsElementUpTo P k v = All (λ t. IsWord P t.0 × (reach P t.0 ≤ k)) v
+
+-- The words of a finished level are the normal ones. A combination of words of reach at most k is derived within k exactly
+-- where it evaluates to zero.
+pub record SettlesLevel (P : Presentation) (k : ℕ) (A : Action) : Type 0 where
+  pub normal : Lists P (IsNormal P k) A.basis
+  pub kernel : (v : Element) → IsElementUpTo P k v → (DerivedWithin P k v ↔ IsZeroRow P.prime (evaluation A v))
+
+abbrev pub FinishedLevelsSettle : Type 0
+FinishedLevelsSettle = (P : Presentation) (k : ℕ) (A : Action) → IsPresentation P → IsFinishedLevel P k A → SettlesLevel P k A
+
+-- At a level that closes, the words of a finished level are the least words of the module, each of them a generator or an
+-- earlier one times a letter, and it has the module's kernel.
+pub record SettlesModule (P : Presentation) (A : Action) : Type 0 where
+  pub least : Lists P (IsLeast P) A.basis
+  pub grown : IsGrown A.basis
+  pub kernel : (v : Element) → IsElement P v → (Derived P v ↔ IsZeroRow P.prime (evaluation A v))
+  pub meets : MeetsRelations P A
+  pub rows : HasDerivedRows P A
+  pub ordered : IsOrdered P A
+
+abbrev pub ClosingLevelsSettle : Type 0
+ClosingLevelsSettle = (P : Presentation) (k : ℕ) (A : Action) → IsPresentation P → IsFinishedLevel P k A → Closes P k → SettlesModule P A
+
+-- uniqueness
+
+pub record ListsAreUnique : Type 0 where
+  pub of_words : (P : Presentation) (us vs : List Word) → IsPresentation P → AllPairs (before P) us → AllPairs (before P) vs
+      → ((w : Word) → Contains us w ↔ Contains vs w) → us ≡ vs
+  pub sizes : (P : Presentation) (k m n : ℕ) → IsPresentation P → HasSize P k m → HasSize P k n → m ≡ n
+  pub closing_levels : (P : Presentation) (j k : ℕ) → IsClosingLevel P j → IsClosingLevel P k → j ≡ k
+  pub answers : (P : Presentation) (A B : Answer) → IsPresentation P → IsAnswer P A → IsAnswer P B → A ≡ B
+
+-- the bound on levels: one that has at most `limit` words, and does not close, is not far up
+abbrev pub OpenLevelsAreBounded : Type 0
+OpenLevelsAreBounded =
+    (P : Presentation) (k n limit : ℕ) → IsPresentation P → HasSize P k n → n ≤ limit → ¬ Closes P k
+    → (k < submodule_bound P) ⊎ (k < greatest_step P * limit + relator_bound P)
+
+-- balance
+
+-- the halves of relations, without those that are zero
+pub data AreHalvesOf (p : ℕ) (P : Presentation) : List AlgebraElement → List AlgebraElement → Type 0 where
+  none : AreHalvesOf p P [] []
+  kept : (r h : AlgebraElement) (rs hs : List AlgebraElement) → IsAlgebraElementOf p h (halved P.inverses r) → AreHalvesOf p P rs hs → AreHalvesOf p P (r ∷ rs) (h ∷ hs)
+  dropped : (r : AlgebraElement) (rs hs : List AlgebraElement) → IsAlgebraElementOf p [] (halved P.inverses r) → AreHalvesOf p P rs hs → AreHalvesOf p P (r ∷ rs) hs
+
+-- Q is P with halved relations
+pub record IsBalanceOf (P Q : Presentation) : Type 0 where
+  pub prime : Q.prime ≡ P.prime
+  pub names : Q.names ≡ P.names
+  pub inverses : Q.inverses ≡ P.inverses
+  pub generators : Q.generators ≡ P.generators
+  pub submodule : Q.submodule ≡ P.submodule
+  pub relations : AreHalvesOf P.prime P P.relations Q.relations
+
+-- the same elements are derived
+abbrev pub BalanceKeepsTheModule : Type 0
+BalanceKeepsTheModule = (P Q : Presentation) → IsPresentation P → IsPresentation Q → IsBalanceOf P Q → (v : Element) → (Derived P v ↔ Derived Q v)

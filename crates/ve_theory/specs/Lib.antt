@@ -1,0 +1,12 @@
+pub mod Residues
+pub mod Combinations
+pub mod Words
+pub mod Elements
+pub mod Presentations
+pub mod Derivations
+pub mod Levels
+pub mod Answers
+pub mod Verdicts
+pub mod FinishedLevels
+pub mod Laws
+pub mod Validity

@@ -1,0 +1,8 @@
+//! Balanced presentations.
+
+ghost use Rattle.ve_theory.specs.Laws.{BalanceKeepsTheModule};
+
+/// The same elements are derived with halved relations.
+pub fn balance_keeps_the_module()
+    ensures { BalanceKeepsTheModule }
+{}
