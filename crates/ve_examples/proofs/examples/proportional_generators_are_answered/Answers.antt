@@ -1,0 +1,7 @@
+use Rattle.ve_examples.proofs.examples.proportional_generators_are_answered.Goals as goal
+use Rattle.ve_examples.proofs.ProportionalGeneratorsLevels.{IsWorkedOut-proportional_generators}
+
+pub returns : goal.returns
+returns c =
+    let shown = IsWorkedOut-proportional_generators c.finished_levels_settle.ensures c.closing_levels_settle.ensures in
+    record { valid = shown.valid; answer = shown.answer; sizes = shown.sizes }
