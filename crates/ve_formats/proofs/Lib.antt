@@ -1,0 +1,5 @@
+mod Fronts
+mod Lexing
+mod Places
+mod Decimals
+mod TextLines

@@ -1,0 +1,5 @@
+pub mod Lines
+pub mod WordText
+pub mod AnswerText
+pub mod Tokens
+pub mod Messages

@@ -1,0 +1,9 @@
+//! The texts that the program reads and writes, as definitions in `specs/`: lines and tokens, words, answers, messages.
+//! Laws about them are the contracts of functions with empty bodies.
+#![tactic(auto)]
+
+mod lines;
+mod tokens;
+
+pub use lines::text_of_lines_has_them;
+pub use tokens::{decimals_are_numbers, line_lexes_once, tokens_are_in_order};

@@ -1,0 +1,4 @@
+mod FirstLine
+mod Values
+mod Runs
+mod Steps

@@ -1,0 +1,152 @@
+use crate::{LexFault, Placed, Token, next_line, next_token, tokens};
+use std::test::Fail;
+
+macro_rules! name {
+    ($text:literal, $start:literal, $end:literal) => {
+        Placed { token: Token::Name($text), start: $start, end: $end }
+    };
+}
+
+macro_rules! number {
+    ($text:literal, $value:literal, $start:literal, $end:literal) => {
+        Placed { token: Token::Number { value: $value, text: $text }, start: $start, end: $end }
+    };
+}
+
+macro_rules! symbol {
+    ($byte:literal, $start:literal) => {
+        Placed { token: Token::Symbol($byte), start: $start, end: $start + 1 }
+    };
+}
+
+const LINES: [(&[u8], &[Placed]); 16] = [
+    (
+        b"a*12 # b",
+        &[
+            name!(b"a", 0, 1),
+            symbol!(b'*', 1),
+            number!(b"12", 12, 2, 4),
+        ],
+    ),
+    (b"", &[]),
+    (b" \t\r", &[]),
+    (b"#", &[]),
+    (b"# \x00\xff$ 1234567890123456789", &[]),
+    (b"x#\x00\xff", &[name!(b"x", 0, 1)]),
+    (b"\tx\r", &[name!(b"x", 1, 2)]),
+    (b"_a1_Z9 b", &[name!(b"_a1_Z9", 0, 6), name!(b"b", 7, 8)]),
+    (b"_", &[name!(b"_", 0, 1)]),
+    (b"007", &[number!(b"007", 7, 0, 3)]),
+    (b"0", &[number!(b"0", 0, 0, 1)]),
+    (
+        b"999999999999999999",
+        &[number!(b"999999999999999999", 999_999_999_999_999_999, 0, 18)],
+    ),
+    (
+        b"000000000000000001",
+        &[number!(b"000000000000000001", 1, 0, 18)],
+    ),
+    (b"12ab", &[number!(b"12", 12, 0, 2), name!(b"ab", 2, 4)]),
+    (
+        b"x^-2",
+        &[
+            name!(b"x", 0, 1),
+            symbol!(b'^', 1),
+            symbol!(b'-', 2),
+            number!(b"2", 2, 3, 4),
+        ],
+    ),
+    (
+        b"+(=)",
+        &[
+            symbol!(b'+', 0),
+            symbol!(b'(', 1),
+            symbol!(b'=', 2),
+            symbol!(b')', 3),
+        ],
+    ),
+];
+
+#[test]
+fn lines_have_these_tokens(rt: HostRuntime) -> Result<(), Fail> {
+    for (line, expected) in LINES {
+        let found = tokens(rt.alloc(), line)?;
+        assert_eq!(rt; found.as_slice(), expected, "at {line:?}");
+    }
+    Ok(())
+}
+
+#[test]
+fn lines_have_these_faults(rt: HostRuntime) {
+    let cases: [(&[u8], LexFault); 11] = [
+        (b"a$", LexFault::BadByte { at: 1 }),
+        (b"  1234567890123456789", LexFault::LongNumber { at: 2 }),
+        (b"0000000000000000000", LexFault::LongNumber { at: 0 }),
+        (b"$ 1234567890123456789", LexFault::BadByte { at: 0 }),
+        (b"1234567890123456789 $", LexFault::LongNumber { at: 0 }),
+        (b"$%", LexFault::BadByte { at: 0 }),
+        (b"a \x00", LexFault::BadByte { at: 2 }),
+        (b"12ab\xff # c", LexFault::BadByte { at: 4 }),
+        (b"a1234567890123456789.", LexFault::BadByte { at: 20 }),
+        (b"x/y", LexFault::BadByte { at: 1 }),
+        (b"\x0b", LexFault::BadByte { at: 0 }),
+    ];
+    for (line, expected) in cases {
+        match tokens(rt.alloc(), line) {
+            Ok(_) => assert!(rt; false, "{line:?} has tokens"),
+            Err(fault) => assert_eq!(rt; fault, expected, "at {line:?}"),
+        }
+    }
+}
+
+#[test]
+fn first_tokens_are_found(rt: HostRuntime) -> Result<(), Fail> {
+    let (first, behind) = next_token(b" end # all", 7)?.ok_or("no token")?;
+    assert_eq!(rt; first, name!(b"end", 8, 11));
+    assert_eq!(rt; behind.len(), 6);
+    assert!(rt; next_token(behind, 0)?.is_none());
+    Ok(())
+}
+
+#[test]
+fn texts_have_these_lines(rt: HostRuntime) {
+    let cases: [(&[u8], &[&[u8]]); 7] = [
+        (b"", &[]),
+        (b"\n", &[b""]),
+        (b"a", &[b"a"]),
+        (b"a\n", &[b"a"]),
+        (b"a\nb", &[b"a", b"b"]),
+        (b"\n\n", &[b"", b""]),
+        (b"a\r\n#\n\n c", &[b"a\r", b"#", b"", b" c"]),
+    ];
+    for (text, expected) in cases {
+        let mut rest = text;
+        for line in expected {
+            match next_line(rest) {
+                Some((found, behind)) => {
+                    assert_eq!(rt; found, *line, "in {text:?}");
+                    rest = behind;
+                }
+                None => assert!(rt; false, "too few lines in {text:?}"),
+            }
+        }
+        assert!(rt; next_line(rest).is_none(), "too many lines in {text:?}");
+    }
+}
+
+#[test]
+fn faults_are_told(rt: HostRuntime) -> Result<(), Fail> {
+    let cases = [
+        (LexFault::BadByte { at: 7 }, "byte 7 begins no token"),
+        (
+            LexFault::LongNumber { at: 0 },
+            "number at byte 0 has more than 18 digits",
+        ),
+        (LexFault::Memory, "out of memory"),
+    ];
+    for (fault, expected) in cases {
+        let told = fault.to_string(rt.alloc())?;
+        assert_eq!(rt; told.as_str(), expected);
+    }
+    Ok(())
+}
