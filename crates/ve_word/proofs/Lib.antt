@@ -1,0 +1,5 @@
+mod Spellings
+mod Ranks
+mod Weights
+mod Places
+mod Texts

@@ -1,0 +1,7 @@
+use Rattle.std.proofs.Common.{refl}
+use Rattle.ve_theory.specs.Validity.{is_name}
+use Rattle.ve_word.proofs.tests.names.names_are_numbered.Goals as goal
+
+pub add_each-requires : goal.add_each-requires
+unfolding is_name
+add_each-requires g c = refl

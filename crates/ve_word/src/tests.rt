@@ -1,0 +1,27 @@
+ghost use Rattle.std.specs.Prelude.{◌<◌, ◌↔◌, All, IsTrue};
+ghost use Rattle.ve_theory.specs.Words.{letters};
+
+mod names;
+mod order;
+mod text;
+mod word;
+
+use crate::{Memory, Word};
+use std::alloc::Global;
+
+fn word_of(alloc: Global, root: u8, letters: &[u8]) -> Result<Word, Memory> {
+    let mut word = Word::root(alloc, root);
+    for &letter in letters {
+        word.push(letter)?;
+    }
+    Ok(word)
+}
+
+// Whether all letters are below a bound.
+fn is_below(word: &Word, bound: usize) -> bool
+    ensures { IsTrue result ↔ All (λ letter. letter < bound) (letters word.now) }
+{
+    word.letters()
+        .iter()
+        .all(|&letter| usize::from(letter) < bound)
+}
