@@ -1,0 +1,7 @@
+pub mod Count
+pub mod Edge
+pub mod MemStream
+pub mod Sink
+pub mod Source
+pub mod Sure
+pub mod Writing

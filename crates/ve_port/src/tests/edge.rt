@@ -1,0 +1,119 @@
+//! Readers as sources and writers as sinks.
+use crate::{Failed, FromRead, Sink, Source, ToWrite};
+use std::io;
+use std::io::{ErrorKind, Read, Write};
+use std::test::Fail;
+
+/// What a call of a scripted stream does.
+#[derive(Clone, Copy, Debug)]
+enum Turn {
+    One,
+    Nothing,
+    Interrupted,
+    Broken,
+}
+
+use Turn::{Broken, Interrupted, Nothing, One};
+
+/// A stream that moves one byte or none in each call, one call after another by its turns, and one
+/// byte in each later call.
+#[derive(Drop)]
+struct Script<'a> {
+    turns: &'a [Turn],
+    written: &'a mut Vec<u8>,
+    flushes: &'a mut u8,
+}
+
+impl Script<'_> {
+    fn next(&mut self) -> io::Result<bool> {
+        let Some((turn, rest)) = self.turns.split_first() else {
+            return Ok(true);
+        };
+        self.turns = rest;
+        match turn {
+            One => Ok(true),
+            Nothing => Ok(false),
+            Interrupted => Err(io::Error::from(ErrorKind::Interrupted)),
+            Broken => Err(io::Error::from(ErrorKind::BrokenPipe)),
+        }
+    }
+}
+
+impl Read for Script<'_> {
+    fn read(&mut self, buffer: &mut [u8]) -> io::Result<usize> {
+        if !self.next()? || buffer.is_empty() {
+            return Ok(0);
+        }
+        buffer[0] = b'x';
+        Ok(1)
+    }
+}
+
+impl Write for Script<'_> {
+    fn write(&mut self, piece: &[u8]) -> io::Result<usize> {
+        if !self.next()? || piece.is_empty() {
+            return Ok(0);
+        }
+        self.written.push(piece[0])?;
+        Ok(1)
+    }
+
+    fn flush(&mut self) -> io::Result<()> {
+        *self.flushes = self.flushes.saturating_add(1);
+        Ok(())
+    }
+}
+
+#[test]
+fn a_reader_is_a_source(rt: HostRuntime) -> Result<(), Fail> {
+    let alloc = rt.alloc();
+    let mut source = FromRead::new(b"abcde".as_slice());
+    let mut buffer = *b"...";
+    assert_eq!(rt; source.take(&mut buffer), Ok(3));
+    assert_eq!(rt; buffer.as_slice(), b"abc".as_slice());
+    assert_eq!(rt; source.take(&mut buffer), Ok(2));
+    assert_eq!(rt; &buffer[..2], b"de".as_slice());
+    assert_eq!(rt; source.take(&mut buffer), Ok(0));
+
+    let (mut written, mut flushes) = (Vec::new(alloc), 0);
+    let mut source = FromRead::new(Script {
+        turns: &[One, Interrupted, Interrupted, One, Broken, Nothing],
+        written: &mut written,
+        flushes: &mut flushes,
+    });
+    for answer in [Ok(1), Ok(1), Err(Failed), Ok(0), Ok(1)] {
+        assert_eq!(rt; source.take(&mut buffer), answer);
+    }
+    Ok(())
+}
+
+#[test]
+fn a_writer_is_a_sink(rt: HostRuntime) -> Result<(), Fail> {
+    let alloc = rt.alloc();
+    let mut written = Vec::new(alloc);
+    let mut sink = ToWrite::new(&mut written);
+    assert_eq!(rt; sink.put(b"ab\n"), Ok(()));
+    assert_eq!(rt; sink.put(b""), Ok(()));
+    assert_eq!(rt; sink.put(b"c\n"), Ok(()));
+    assert_eq!(rt; written.as_slice(), b"ab\nc\n".as_slice());
+
+    let table: [(&[Turn], Result<(), Failed>, &[u8], u8); 5] = [
+        (&[], Ok(()), b"abc", 1),
+        (&[Interrupted, One, Interrupted], Ok(()), b"abc", 1),
+        (&[Nothing], Err(Failed), b"", 0),
+        (&[One, Nothing], Err(Failed), b"a", 0),
+        (&[One, One, Broken], Err(Failed), b"ab", 0),
+    ];
+    for (turns, answer, bytes, flushed) in table {
+        let (mut written, mut flushes) = (Vec::new(alloc), 0);
+        let mut sink = ToWrite::new(Script {
+            turns,
+            written: &mut written,
+            flushes: &mut flushes,
+        });
+        assert_eq!(rt; sink.put(b"abc"), answer, "{turns:?}");
+        assert_eq!(rt; written.as_slice(), bytes, "{turns:?}");
+        assert_eq!(rt; flushes, flushed, "{turns:?}");
+    }
+    Ok(())
+}
