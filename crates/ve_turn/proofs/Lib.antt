@@ -1,0 +1,5 @@
+pub mod Totals
+pub mod Journals
+pub mod Standing
+pub mod Turns
+pub mod Passes
