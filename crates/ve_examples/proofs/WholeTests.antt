@@ -31,6 +31,14 @@ is_row-true p n row e =
     let parts = and_parts (is_reduced nat_lt p row) (list_all (λ t. nat_lt t.0 n) row) e in
     (is_reduced-true nat_lt ◌<◌ ltb-true p row parts.0, All-from_test (λ t. t.0 < n) (λ t. nat_lt t.0 n) (λ t h. ltb-true t.0 n h) row parts.1)
 
+abbrev has_word : Answer → Word → Bool
+has_word A w = nat_lt (start w) A.generators && list_all (λ x. nat_lt x (length A.names)) (letters w)
+
+has_word-true : (A : Answer) (w : Word) → has_word A w ≡ true → (start w < A.generators) × All (λ x. x < length A.names) (letters w)
+has_word-true A w e =
+    let parts = and_parts (nat_lt (start w) A.generators) (list_all (λ x. nat_lt x (length A.names)) (letters w)) e in
+    (ltb-true (start w) A.generators parts.0, All-from_test (λ x. x < length A.names) (λ x. nat_lt x (length A.names)) (λ x h. ltb-true x (length A.names) h) (letters w) parts.1)
+
 abbrev form_tests : Answer → List Bool
 form_tests A =
     nat_eq (length A.action.images) A.generators
@@ -38,10 +46,11 @@ form_tests A =
     ∷ list_all (λ matrix. nat_eq (length matrix) (dimension A.action)) A.action.matrices
     ∷ list_all (is_row A.prime (dimension A.action)) A.action.images
     ∷ list_all (λ matrix. list_all (is_row A.prime (dimension A.action)) matrix) A.action.matrices
+    ∷ list_all (has_word A) A.action.basis
     ∷ []
 
 IsWellFormed-from_tests : (A : Answer) → Every (form_tests A) → IsGrown A.action.basis → IsWellFormed A
-IsWellFormed-from_tests A (one_image, (one_matrix, (square, (images, (matrices, _))))) grown = record {
+IsWellFormed-from_tests A (one_image, (one_matrix, (square, (images, (matrices, (words, _)))))) grown = record {
   one_image_each = eqb-true (length A.action.images) A.generators one_image;
   one_matrix_each = eqb-true (length A.action.matrices) (length A.names) one_matrix;
   square = All-from_test (λ (matrix : List Row). length matrix ≡ dimension A.action) (λ (matrix : List Row). nat_eq (length matrix) (dimension A.action))
@@ -50,6 +59,7 @@ IsWellFormed-from_tests A (one_image, (one_matrix, (square, (images, (matrices, 
   matrices = All-from_test (λ (matrix : List Row). All (IsRow A.prime (dimension A.action)) matrix) (λ (matrix : List Row). list_all (is_row A.prime (dimension A.action)) matrix)
       (λ matrix h. All-from_test (IsRow A.prime (dimension A.action)) (is_row A.prime (dimension A.action)) (is_row-true A.prime (dimension A.action)) matrix h)
       A.action.matrices matrices;
+  words = All-from_test (λ w. (start w < A.generators) × All (λ x. x < length A.names) (letters w)) (has_word A) (has_word-true A) A.action.basis words;
   grown = grown;
 }
 

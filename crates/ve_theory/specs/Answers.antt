@@ -1,7 +1,7 @@
 -- Answers: matrices of a module on a basis of words. What they evaluate elements to, and what makes them right.
 use Rattle.std.specs.Prelude.{◌≡◌, ℕ, ◌<◌, ◌⊎◌, AllPairs, List, [], ◌∷◌, ◌++◌, length, All, slice_index_or, nat_eq}
 use Rattle.ve_theory.specs.Combinations.{Combination, unit, difference, extended, Alike, IsReduced}
-use Rattle.ve_theory.specs.Words.{Word, generator, times}
+use Rattle.ve_theory.specs.Words.{Word, generator, times, start, letters}
 use Rattle.ve_theory.specs.Elements.{AlgebraElement, Element}
 use Rattle.ve_theory.specs.Presentations.{Presentation, letter_count, relators, relator, submodule_relation, before}
 use Rattle.ve_theory.specs.Derivations.{Derived}
@@ -81,13 +81,15 @@ pub record Answer : Type 0 where
 abbrev pub IsRow : (p n : ℕ) → Row → Type 0
 IsRow p n row = IsReduced ◌<◌ p row × All (λ t. t.0 < n) row
 
--- the answer's lists have the lengths that they must have, and its rows are rows
+-- The answer's lists have the lengths that they must have, its rows are rows, and its basis words have generators and letters of
+-- the answer; each is a generator or an earlier one times a letter.
 pub record IsWellFormed (A : Answer) : Type 0 where
   pub one_image_each : length A.action.images ≡ A.generators
   pub one_matrix_each : length A.action.matrices ≡ length A.names
   pub square : All (λ matrix. length matrix ≡ dimension A.action) A.action.matrices
   pub images : All (IsRow A.prime (dimension A.action)) A.action.images
   pub matrices : All (All (IsRow A.prime (dimension A.action))) A.action.matrices
+  pub words : All (λ w. (start w < A.generators) × All (λ x. x < length A.names) (letters w)) A.action.basis
   pub grown : IsGrown A.action.basis
 
 -- the answer and the presentation have one field, one list of names and one number of generators

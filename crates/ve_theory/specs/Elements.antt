@@ -77,8 +77,9 @@ inverse_of_letters inverses (x ∷ u) = both (slice_get inverses x) (inverse_of_
     both (Some (Some y)) (Some v) = Some (v ++ y ∷ [])
     both _ _ = None
 
--- Half of a relation. Of a sum `c*w + c'*w'` of two words, w the longer, let t be the last letters of w, half as many as
--- the lengths differ by. Where t has an inverse T and `w = u*t`, the half is `c*u + c'*w'*T`. Else it is the sum itself.
+-- Half of a relation. Of a reduced sum `c*w + c'*w'` of two words, w is the first and the longer one, unless they are equally
+-- long. Let t be the last letters of w, half as many, rounded down, as the lengths differ by, and `w = u*t`. Where each letter
+-- of t has an inverse, the half is `c*u + c'*w'*T`, with T the inverse of t. Else it is the sum itself.
 unfoldable pub halved : List (Option ℕ) → AlgebraElement → AlgebraElement
 halved inverses [] = []
 halved inverses (s ∷ []) = s ∷ []

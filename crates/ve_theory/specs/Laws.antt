@@ -1,9 +1,9 @@
 -- What holds of the definitions. Each law is the contract of the function of its name.
-use Rattle.std.specs.Prelude.{◌≡◌, ℕ, ◌+◌, ◌*◌, ◌<◌, ◌≤◌, ◌⊎◌, ◌↔◌, List, [], ◌∷◌, ◌++◌, All, AllPairs, Contains, nat_eq}
+use Rattle.std.specs.Prelude.{◌≡◌, ℕ, ◌+◌, ◌*◌, ◌<◌, ◌≤◌, ◌⊎◌, ◌↔◌, Bool, List, [], ◌∷◌, ◌++◌, All, AllPairs, Contains, nat_eq}
 use Rattle.ve_theory.specs.Residues.{IsFieldPrime, Congruent}
-use Rattle.ve_theory.specs.Combinations.{scaled, coefficient, Alike, IsReduced}
-use Rattle.ve_theory.specs.Words.{Word, generator, times, same_word, same_letters, Shortlex, ShortlexLetters, Weighted}
-use Rattle.ve_theory.specs.Elements.{AlgebraElement, Element, product, element_times, halved, IsAlgebraElementOf}
+use Rattle.ve_theory.specs.Combinations.{Combination, unit, scaled, coefficient, Alike, IsReduced}
+use Rattle.ve_theory.specs.Words.{Word, generator, times, times_all, same_word, same_letters, Shortlex, ShortlexLetters, Weighted}
+use Rattle.ve_theory.specs.Elements.{AlgebraElement, Element, product, word_times, element_times, times_letter, halved, IsAlgebraElementOf}
 use Rattle.ve_theory.specs.Presentations.{Presentation, IsPresentation, IsWord, relator, submodule_relation, step, reach, relator_reach, element_reach, before, greatest_step, relator_bound, submodule_bound}
 use Rattle.ve_theory.specs.Derivations.{Derived, DerivedWithin}
 use Rattle.ve_theory.specs.Levels.{IsNormal, IsLeast, Lists, HasSize, Closes, IsClosingLevel}
@@ -58,16 +58,33 @@ EqualWeightsAreShortlex = (weights : List ℕ) (v w : Word) → All (λ s. s ≡
 -- elements
 
 -- a sum adds coefficients, a scaling multiplies them
-abbrev pub SumsAddCoefficients : Type 0
-SumsAddCoefficients =
-    ((u v : Element) (w : Word) → coefficient same_word (u ++ v) w ≡ coefficient same_word u w + coefficient same_word v w)
-    × ((c : ℕ) (v : Element) (w : Word) → coefficient same_word (scaled c v) w ≡ c * coefficient same_word v w)
+pub record AddsCoefficients {K : Type 0} (same : K → K → Bool) : Type 0 where
+  pub sums : (u v : Combination K) (k : K) → coefficient same (u ++ v) k ≡ coefficient same u k + coefficient same v k
+  pub scalings : (c : ℕ) (v : Combination K) (k : K) → coefficient same (scaled c v) k ≡ c * coefficient same v k
 
--- products of alike elements are alike
-abbrev pub ProductsOfAlike : Type 0
-ProductsOfAlike =
-    ((p : ℕ) (u v r s : AlgebraElement) → Alike same_letters p u v → Alike same_letters p r s → Alike same_letters p (product u r) (product v s))
-    × ((p : ℕ) (u v : Element) (r s : AlgebraElement) → Alike same_word p u v → Alike same_letters p r s → Alike same_word p (element_times u r) (element_times v s))
+-- for words, lists of letters and places
+pub record SumsAddCoefficients : Type 0 where
+  pub elements : AddsCoefficients same_word
+  pub algebra : AddsCoefficients same_letters
+  pub rows : AddsCoefficients nat_eq
+
+-- A product by elements of the algebra is alike for alike factors, linear in both, and joins single keys. This determines it up
+-- to alike sums, modulo each p.
+pub record IsBilinear {K : Type 0} (same : K → K → Bool) (joined : K → List ℕ → K) (multiply : Combination K → AlgebraElement → Combination K) : Type 0 where
+  pub alike : (p : ℕ) (u v : Combination K) (r s : AlgebraElement) → Alike same p u v → Alike same_letters p r s → Alike same p (multiply u r) (multiply v s)
+  pub left_sums : (p : ℕ) (u v : Combination K) (r : AlgebraElement) → Alike same p (multiply (u ++ v) r) (multiply u r ++ multiply v r)
+  pub right_sums : (p : ℕ) (u : Combination K) (r s : AlgebraElement) → Alike same p (multiply u (r ++ s)) (multiply u r ++ multiply u s)
+  pub left_scalings : (p c : ℕ) (u : Combination K) (r : AlgebraElement) → Alike same p (multiply (scaled c u) r) (scaled c (multiply u r))
+  pub right_scalings : (p c : ℕ) (u : Combination K) (r : AlgebraElement) → Alike same p (multiply u (scaled c r)) (scaled c (multiply u r))
+  pub units : (p : ℕ) (a : K) (b : List ℕ) → Alike same p (multiply (unit a) (unit b)) (unit (joined a b))
+
+-- products in the algebra, and of module elements by elements of the algebra; a module element times a letter, and a word times
+-- an element of the algebra, are such products
+pub record ProductsAreBilinear : Type 0 where
+  pub algebra : IsBilinear same_letters ◌++◌ product
+  pub elements : IsBilinear same_word times_all element_times
+  pub by_letter : (p : ℕ) (v : Element) (x : ℕ) → Alike same_word p (times_letter v x) (element_times v (unit (x ∷ [])))
+  pub of_word : (p : ℕ) (w : Word) (r : AlgebraElement) → Alike same_word p (word_times w r) (element_times (unit w) r)
 
 -- there is one reduced list of terms for a sum
 pub record ReducedListsAreUnique : Type 0 where

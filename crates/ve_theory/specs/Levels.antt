@@ -38,7 +38,8 @@ HasSize P zero n = n ≡ P.generators
 HasSize P (suc k) n =
     (ws : List Word) × (Lists P (IsNormal P k) ws) × (n ≡ length ws + sum_by (steps_to P (suc k)) ws)
 
--- a level closes where every submodule relation was due, and every relator was due at every normal word
+-- A level closes where every submodule relation was due, every relator was due at every normal word, and every normal word times
+-- a letter is within the level: the bound of relators covers the steps of letters too, and is at least 1.
 pub record Closes (P : Presentation) (k : ℕ) : Type 0 where
   pub submodule : submodule_bound P ≤ k
   pub relators : (w : Word) → IsNormal P k w → reach P w + relator_bound P ≤ k

@@ -90,13 +90,17 @@ HasLetters P u = All (λ x. x < letter_count P) u
 abbrev pub IsWord : Presentation → Word → Type 0
 IsWord P w = (start w < P.generators) × HasLetters P (letters w)
 
+-- the most that a letter may weigh
+abbrev pub most_weight : ℕ
+most_weight = 16
+
 -- What holds of every presentation. Inverses are mutual; elements are lists of terms in strictly falling shortlex order over
 -- the presentation's letters and generators, with residues other than 0 as coefficients; no relation is zero.
 pub record IsPresentation (P : Presentation) : Type 0 where
   pub field : IsFieldPrime P.prime
   pub one_inverse_each : length P.inverses ≡ letter_count P
   pub one_weight_each : length P.weights ≡ letter_count P
-  pub weights : All (λ w. (0 < w) × (w ≤ 16)) P.weights
+  pub weights : All (λ w. (0 < w) × (w ≤ most_weight)) P.weights
   pub inverses : (x y : ℕ) → slice_get P.inverses x ≡ Some (Some y) → slice_get P.inverses y ≡ Some (Some x)
   pub relations : All (λ r. IsReduced ShortlexLetters P.prime r × All (λ t. HasLetters P t.0) r × (r ≢ [])) P.relations
   pub submodule : All (λ q. IsReduced Shortlex P.prime q × All (λ t. IsWord P t.0) q × (q ≢ [])) P.submodule

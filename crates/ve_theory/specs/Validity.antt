@@ -24,9 +24,6 @@ most_length = 1000
 abbrev pub most_cells : ℕ
 most_cells = 8388608
 
-abbrev pub greatest_weight : ℕ
-greatest_weight = 16
-
 -- a letter of a name: A to Z, a to z, or the low line; a digit
 abbrev pub is_name_letter : ℕ → Bool
 is_name_letter b = (nat_le 65 b && nat_le b 90) || (nat_le 97 b && nat_le b 122) || nat_eq b 95

@@ -1,15 +1,15 @@
 //! Sums, scalings and products of elements.
 
-ghost use Rattle.ve_theory.specs.Laws.{SumsAddCoefficients, ProductsOfAlike, ReducedListsAreUnique};
+ghost use Rattle.ve_theory.specs.Laws.{SumsAddCoefficients, ProductsAreBilinear, ReducedListsAreUnique};
 
 /// A sum adds coefficients, and a scaling multiplies them.
 pub fn sums_add_coefficients()
     ensures { SumsAddCoefficients }
 {}
 
-/// Products of alike elements are alike.
-pub fn products_of_alike()
-    ensures { ProductsOfAlike }
+/// Products are determined: alike for alike factors, linear in both, and words joined for single words.
+pub fn products_are_bilinear()
+    ensures { ProductsAreBilinear }
 {}
 
 /// There is one list of terms for an element, and for a row.
