@@ -3,3 +3,12 @@ pub mod WordText
 pub mod AnswerText
 pub mod Tokens
 pub mod Messages
+pub mod Causes
+pub mod Expressions
+pub mod ModuleExpressions
+pub mod Once
+pub mod Values
+pub mod ModuleValues
+pub mod PresentationLines
+pub mod PresentationText
+pub mod CanonicalText

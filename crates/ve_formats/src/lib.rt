@@ -1,9 +1,14 @@
-//! The texts that the program reads and writes, as definitions in `specs/`: lines and tokens, words, answers, messages.
+//! The texts that the program reads and writes, as definitions in `specs/`: lines and tokens, presentations, words, answers,
+//! messages.
 //! Laws about them are the contracts of functions with empty bodies.
 #![tactic(auto)]
 
+mod canonical;
+mod grammar;
 mod lines;
 mod tokens;
 
+pub use canonical::canonical_spells;
+pub use grammar::{line_forms_once, text_spells_once, values_are_unique};
 pub use lines::text_of_lines_has_them;
 pub use tokens::{decimals_are_numbers, line_lexes_once, tokens_are_in_order};
