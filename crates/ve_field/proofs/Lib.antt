@@ -1,0 +1,2 @@
+pub mod TableOfPrimes
+pub mod Powers
