@@ -90,6 +90,13 @@ impl Word {
         self.spelling[at]
     }
 
+    /// The letters as a list, from the first to the last.
+    pub fn spelling(&self) -> &Vec<u8>
+        ensures { result.now.items ≡ letters self.now }
+    {
+        &self.spelling
+    }
+
     /// The letters, from the first to the last.
     pub(crate) fn letters(&self) -> &[u8]
         ensures value { result.now ≡ letters self.now }

@@ -1,0 +1,16 @@
+pub mod PowerTexts
+pub mod Reading
+pub mod Writings
+pub mod Words
+pub mod Runs
+pub mod PowerAnswers
+pub mod PowerChains
+pub mod PowerLevels
+pub mod PowerPresentations
+pub mod PowerWords
+pub mod FirstForms
+pub mod Products
+pub mod Sides
+pub mod Rows
+pub mod Names
+pub mod Options

@@ -1,0 +1,73 @@
+ghost use Rattle.std.specs.Prelude.{◌≡◌};
+ghost use Rattle.ve_main.specs.Stops.{status_of, message_of, stop_of};
+ghost use Rattle.ve_main.specs.declared.stop.Stop.TheVariants.{Memory as OutOfMemory};
+
+use ve_port::OutFault;
+use ve_word::Memory;
+
+/// Why a run ends without its text.
+#[derive(Clone, Copy, Debug, PartialEq, Eq)]
+pub enum Stop {
+    /// The words of the command line are refused.
+    Words,
+    /// The input is too long.
+    TooLong,
+    /// The text is not of a form that can be worked on.
+    NotYet,
+    /// The source failed.
+    Input,
+    /// The output failed.
+    Output,
+    /// Want of memory.
+    Memory,
+}
+
+impl Stop {
+    /// The status that the program ends with.
+    pub fn status(self) -> u8
+        ensures { result ≡ status_of self }
+    {
+        match self {
+            Stop::Words => 2,
+            Stop::TooLong | Stop::NotYet => 3,
+            Stop::Input => 4,
+            Stop::Output => 5,
+            Stop::Memory => 6,
+        }
+    }
+
+    /// The line for the error output.
+    pub fn message(self) -> &'static [u8]
+        ensures { result.now ≡ message_of self }
+    {
+        match self {
+            Stop::Words => {
+                b"venum: usage: venum alone, shared, show, check or make, with their options\n"
+            }
+            Stop::TooLong => b"venum: input longer than 16777216 bytes\n",
+            Stop::NotYet => b"venum: not yet\n",
+            Stop::Input => b"venum: input failed\n",
+            Stop::Output => b"venum: output failed\n",
+            Stop::Memory => b"venum: out of memory\n",
+        }
+    }
+}
+
+impl From<Memory> for Stop {
+    ghost from_gives = { λ _ stop. stop ≡ OutOfMemory };
+
+    fn from(_want: Memory) -> Stop {
+        Stop::Memory
+    }
+}
+
+impl From<OutFault> for Stop {
+    ghost from_gives = { λ fault stop. stop ≡ stop_of fault };
+
+    fn from(fault: OutFault) -> Stop {
+        match fault {
+            OutFault::Sink => Stop::Output,
+            OutFault::Memory => Stop::Memory,
+        }
+    }
+}
