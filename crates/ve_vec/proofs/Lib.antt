@@ -1,0 +1,10 @@
+pub mod ReducedLists
+pub mod Coefficients
+pub mod Merging
+pub mod Searching
+pub mod TermSteps
+pub mod Joining
+pub mod Scaling
+pub mod Ids
+pub mod Residues
+pub mod Substituting

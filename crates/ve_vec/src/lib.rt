@@ -1,0 +1,12 @@
+//! Sparse vectors over a prime field.
+#![tactic(auto)]
+
+mod merge;
+mod rows;
+mod search;
+mod sparse;
+mod term;
+
+pub use rows::Rows;
+pub use sparse::Sparse;
+pub use term::Term;
