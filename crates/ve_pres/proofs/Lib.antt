@@ -1,0 +1,16 @@
+mod Orders
+mod Words
+mod Sums
+mod Reduced
+mod GatheringSteps
+mod Gatherings
+mod Products
+mod KeptElements
+mod InAlgebra
+mod PowerSteps
+mod WeightSums
+mod Bounds
+mod LetterLists
+mod ValidPresentations
+mod HalfSteps
+mod WordBounds

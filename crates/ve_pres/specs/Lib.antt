@@ -1,0 +1,9 @@
+pub mod Limits
+pub mod Terms
+pub mod Gathering
+pub mod Powers
+pub mod Drafts
+pub mod Built
+pub mod Letters
+pub mod Halves
+pub mod Relations
