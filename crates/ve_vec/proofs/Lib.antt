@@ -5,6 +5,7 @@ pub mod Searching
 pub mod TermSteps
 pub mod Joining
 pub mod Scaling
+pub mod Numbering
 pub mod Ids
 pub mod Residues
 pub mod Substituting

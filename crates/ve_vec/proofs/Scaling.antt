@@ -53,7 +53,7 @@ module _ {X : Type 0} (g : X → X) where
   set-written (x ∷ xs) zero d within = refl
   set-written (x ∷ xs) (suc i) d within = ap (λ l. g x ∷ l) (set-written xs i d (omega arith))
 
-  length-written : (xs : List X) (i : ℕ) → length (written_up_to i xs) ≡ length xs
+  pub length-written : (xs : List X) (i : ℕ) → length (written_up_to i xs) ≡ length xs
   length-written [] zero = refl
   length-written [] (suc i) = refl
   length-written (x ∷ xs) zero = refl

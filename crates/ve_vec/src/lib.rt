@@ -2,6 +2,7 @@
 #![tactic(auto)]
 
 mod merge;
+mod number;
 mod rows;
 mod search;
 mod sparse;

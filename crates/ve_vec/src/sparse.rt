@@ -1,9 +1,10 @@
-ghost use Rattle.std.specs.Prelude.{◌≡◌, ℕ, ◌<◌, ◌≤◌, ◌↔◌, Bool, [], ◌++◌, IsTrue, IfSome, IsNone, IfOk, OnOk, OnErr, All, length, map, nat_eq, slice_get};
+ghost use Rattle.std.specs.Prelude.{◌≡◌, ℕ, ◌<◌, ◌≤◌, ◌↔◌, Bool, [], ◌∷◌, ◌++◌, IsTrue, IfSome, IsNone, IfOk, OnOk, OnErr, All, length, map, nat_eq, slice_get};
 ghost use Rattle.ve_theory.specs.Combinations.{unit, scaled, coefficient, AllBefore, IsReduced, IsReducedOf};
-ghost use Rattle.ve_vec.specs.Vectors.{AllIds, without};
+ghost use Rattle.ve_vec.specs.Vectors.{AllIds, IsVector, numbered, without};
 
 use crate::Term;
 use crate::merge::{append_scaled, append_sum, comes_before, scale_terms};
+use crate::number::number_terms;
 use crate::search::{split_around, split_at_id};
 use smallvec::SmallVec;
 use std::alloc::Global;
@@ -85,6 +86,18 @@ impl Sparse {
         self.terms.as_slice().first().copied()
     }
 
+    /// Takes the term of greatest id away. `None` where the vector is zero.
+    pub fn take_leading(&mut self) -> Option<Term>
+        ensures zero { IsNone result ↔ (self.old ≡ []) }
+        ensures same { IsNone result → self.new ≡ self.old }
+        ensures first { IfSome result (λ t. self.old ≡ (t.id, t.coef) ∷ self.new) }
+    {
+        if self.terms.is_empty() {
+            return None;
+        }
+        Some(self.terms.remove(0))
+    }
+
     /// The coefficient at `id`, which is 0 where there is no such term.
     pub fn coef_of(&self, id: u32) -> u8
         ensures { result ≡ coefficient nat_eq self.now id }
@@ -163,6 +176,15 @@ impl Sparse {
         append_sum(&mut sum, field, coef, below, lower)?;
         self.terms = sum;
         Ok(())
+    }
+
+    /// Puts the number of each id in its place. The numbers of the vector's ids have the order of the ids.
+    pub fn renumber(&mut self, numbers: &[u32])
+        requires ids { All (λ t. t.0 < length numbers.now) self.old }
+        requires order { IsVector (numbered numbers.now self.old) }
+        ensures { self.new ≡ numbered numbers.now self.old }
+    {
+        number_terms(self.terms.as_mut_slice(), numbers);
     }
 }
 

@@ -1,4 +1,4 @@
-ghost use Rattle.std.specs.Prelude.{◌≡◌, ◌<◌, IfOk};
+ghost use Rattle.std.specs.Prelude.{◌≡◌, ◌<◌, IfOk, length};
 ghost use Rattle.ve_theory.specs.Combinations.{IsReduced};
 
 use super::*;
@@ -125,6 +125,36 @@ fn grows_past_four_terms_and_back(rt: HostRuntime) -> Result<(), Fail> {
     v.scale(&field, 3);
     v.add_scaled(&field, 4, &ones)?;
     assert!(rt; is_vector(&v, &[(3, 2)]));
+    Ok(())
+}
+
+#[test]
+fn takes_leading_terms(rt: HostRuntime) -> Result<(), Fail> {
+    let alloc = rt.alloc();
+    let Some(field) = Field::new(5) else {
+        panic!(rt; "5 is a prime");
+    };
+    let mut v = pair(alloc, &field, term(7, 2), term(3, 1))?;
+    assert_eq!(rt; v.take_leading(), Some(term(7, 2)));
+    assert!(rt; is_vector(&v, &[(3, 1)]));
+    assert_eq!(rt; v.take_leading(), Some(term(3, 1)));
+    assert_eq!(rt; v.take_leading(), None);
+    Ok(())
+}
+
+/// A unit whose id gets its number.
+fn numbered_unit(alloc: Global, id: u32, numbers: &[u32]) -> Sparse
+    requires { id < length numbers.now }
+{
+    let mut v = Sparse::unit(alloc, id);
+    v.renumber(numbers);
+    v
+}
+
+#[test]
+fn renumbers(rt: HostRuntime) -> Result<(), Fail> {
+    let unit = numbered_unit(rt.alloc(), 2, &[4, 0, 1]);
+    assert!(rt; is_vector(&unit, &[(1, 1)]));
     Ok(())
 }
 
