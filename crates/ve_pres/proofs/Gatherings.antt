@@ -1,11 +1,11 @@
 -- What holds while a sorted list of terms is gathered from its end.
 use Rattle.std.proofs.Common.{◌≡◌, ℕ, ◌+◌, ◌%◌, ◌<◌, ◌≤◌, false, List, [], ◌∷◌, ◌++◌, length, get_or, All, refl, sym, ap, ap₂, ◌∙◌, subst, slice_index_or, length-append, arith}
-use Rattle.std.proofs.lemmas.List.{map-append, append-nil, get_or_append_left}
+use Rattle.std.proofs.lemmas.List.{map-append, get_or_append_left}
 use Rattle.std.proofs.Math.Seq.{get_or-append_seam}
 use Rattle.std.proofs.lemmas.List.Elements.{All-nil, All-cons, All-head, All-tail, All-weaker}
 use Rattle.std.proofs.lemmas.List.Sorted.{sorted_far, length_permutation, All-permutation}
 use Rattle.std.specs.List.Sorted.{IsPermutation, IsSortedBy}
-use Rattle.ve_theory.specs.Combinations.{coefficient, Alike, IsReduced, IsReducedOf}
+use Rattle.ve_theory.specs.Combinations.{coefficient, Alike, IsReduced}
 use Rattle.ve_theory.specs.Words.{Word, same_word, Shortlex}
 use Rattle.ve_pres.specs.declared.term.Term.{Term}
 use Rattle.ve_pres.specs.Terms.{pairs}
@@ -43,7 +43,8 @@ gathering_begins p terms kept left residues moved rising none =
       count = let e : length left ≡ length terms = length_permutation terms left moved in omega arith;
     })
 
--- the last of a list
+-- the last of a list, and what is before it
+
 pub All-last : {X : Type 0} (P : X → Type 0) (xs : List X) (x : X) → All P (xs ++ x ∷ []) → P x
 All-last P [] x h = All-head P x [] h
 All-last P (y ∷ xs) x h = All-last P xs x (All-tail P y (xs ++ x ∷ []) h)
@@ -92,15 +93,3 @@ gathering_goes_on p terms kept new left rest term old is gathers count = go (let
       where
         above : (s : Term) → IsAtMost s.word term.word → AtLeast s.word (pairs new)
         above s least = All-weaker (λ (t : Word × ℕ). IsAtMost term.word t.0) (λ (t : Word × ℕ). IsAtMost s.word t.0) (λ t h. at_most_trans s.word term.word t.0 least h) (pairs new) gathers.at_least
-
-pub gathering_ready : (p : ℕ) (terms kept left rest : List Term) (term : Term) → IsGathering p terms kept left → left ≡ rest ++ term ∷ [] → (AtLeast term.word (pairs kept)) × (term.coef < p)
-gathering_ready p terms kept left rest term old is = (
-  All-last (λ (s : Term). AtLeast s.word (pairs kept)) rest term (let P : List Term → Type 0 = λ u. All (λ (s : Term). AtLeast s.word (pairs kept)) u in subst P is old.above),
-  All-last (λ (s : Term). s.coef < p) rest term (let P : List Term → Type 0 = λ u. All (λ (s : Term). s.coef < p) u in subst P is old.residues),
-)
-
-pub gathering_ends : (p : ℕ) (terms kept left : List Term) → IsGathering p terms kept left → left ≡ [] → IsReducedOf Shortlex same_word p (pairs kept) (pairs terms)
-gathering_ends p terms kept left old none = record {
-  reduced = old.reduced;
-  alike = λ k. ap (λ v. coefficient same_word v k % p) (sym (append-nil (pairs kept)) ∙ ap (λ u. pairs kept ++ pairs u) (sym none)) ∙ old.alike k;
-}

@@ -1,5 +1,5 @@
 -- Elements within the limits.
-use Rattle.std.proofs.Common.{◌≡◌, ℕ, ◌+◌, ◌*◌, ◌%◌, ◌<◌, ◌≤◌, List, [], ◌∷◌, ◌++◌, length, get_or, take, All, Some, None, slice_get, refl, sym, ap, ap₂, ◌∙◌, subst, length-append, arith}
+use Rattle.std.proofs.Common.{◌≡◌, ℕ, ◌+◌, ◌*◌, ◌%◌, ◌<◌, ◌≤◌, List, [], ◌∷◌, ◌++◌, length, get_or, take, All, Some, None, slice_get, refl, sym, ap, ap₂, ◌∙◌, subst, arith}
 use Rattle.std.proofs.Math.Seq.{take-length}
 use Rattle.std.proofs.lemmas.List.Elements.{All-nil, All-cons, All-head, All-append, All-weaker}
 use Rattle.ve_theory.specs.Combinations.{Combination, scaled, unit, coefficient, Alike, AllBefore, IsReduced}
@@ -8,10 +8,10 @@ use Rattle.ve_theory.specs.Elements.{Element, AlgebraElement, IsElementOf, eleme
 use Rattle.ve_theory.specs.Validity.{most_length, most_terms}
 use Rattle.ve_pres.specs.declared.term.Term.{Term}
 use Rattle.ve_pres.specs.Terms.{pairs, residues, IsKept, IsSummable}
-use Rattle.ve_pres.proofs.Sums.{Alike-residues, Alike-append, scaled-unit}
+use Rattle.ve_pres.proofs.Sums.{Alike-residues}
 use Rattle.ve_pres.proofs.Reduced.{words_of_sum, residues_of_reduced}
 use Rattle.ve_pres.proofs.Gatherings.{coefs_of_pairs}
-use Rattle.ve_pres.proofs.Products.{residues-append, residues_below, residues_keep, scaled_keeps, length-scaled, length-element_times, element_times-zero, times_lengths, longest_first}
+use Rattle.ve_pres.proofs.Products.{residues_below, residues_keep, scaled_keeps, length-scaled, length-element_times, element_times-zero, times_lengths, longest_first}
 
 pub kept_zero : (terms : List Term) → terms ≡ [] → IsKept (pairs terms)
 unfolding IsReduced
@@ -82,9 +82,6 @@ positive_residue n p h = omega arith
 pub from_empty : (v more : Element) (begun : List Term) → v ≡ pairs begun ++ more → begun ≡ [] → v ≡ more
 from_empty v more begun is none = is ∙ ap (λ u. pairs u ++ more) none
 
-pub from_both : (v first second : Element) (begun middle : List Term) → v ≡ pairs middle ++ second → pairs middle ≡ pairs begun ++ first → begun ≡ [] → v ≡ first ++ second
-from_both v first second begun middle is before none = is ∙ ap (λ u. u ++ second) (from_empty (pairs middle) first begun before none)
-
 pub kept_view : (v : Element) (items : List Term) → IsKept (pairs items) → pairs items ≡ v → IsKept v
 kept_view v items kept shown = let P : Element → Type 0 = λ u. IsKept u in subst P shown kept
 
@@ -115,23 +112,23 @@ summable_scaling p by terms v residue kept shown =
 
 -- sums
 
-pub summable_sum : (p one : ℕ) (terms : List Term) (u v : Element) → one < p → IsKept u → IsKept v → length u + length v ≤ most_terms
-    → pairs terms ≡ residues p (scaled one u) ++ residues p (scaled one v) → IsSummable p (pairs terms)
-summable_sum p one terms u v residue left right count shown =
-    summable_residues p terms (scaled one u ++ scaled one v) (positive_residue one p residue) (shown ∙ sym (residues-append p (scaled one u) (scaled one v)))
-    (All-append (λ (t : Word × ℕ). word_length t.0 ≤ most_length) (scaled one u) (scaled one v)
-    (scaled_keeps (λ w. word_length w ≤ most_length) one u left.lengths)
-    (scaled_keeps (λ w. word_length w ≤ most_length) one v right.lengths))
-    (let a : length (scaled one u) ≡ length u = length-scaled one u in
-    let b : length (scaled one v) ≡ length v = length-scaled one v in
-    omega (arith, length-append (scaled one u) (scaled one v)))
+pub sum_of_views : (p : ℕ) (kept : Element) (left right : List Term) (u v : Element) → pairs left ≡ u → pairs right ≡ v → IsElementOf p kept (pairs left ++ pairs right) → IsElementOf p kept (u ++ v)
+sum_of_views p kept left right u v a b sum = let P : Element → Type 0 = λ e. IsElementOf p kept e in subst P (ap₂ (λ x y. x ++ y) a b) sum
 
-pub sum_of_both : (p one : ℕ) (v : Element) (terms : List Term) (u w : Element) → one ≡ 1 % p → pairs terms ≡ residues p (scaled one u) ++ residues p (scaled one w)
-    → IsElementOf p v (pairs terms) → IsElementOf p v (u ++ w)
-sum_of_both p one v terms u w is shown sum =
-    sum_of_alike p v (scaled one u ++ scaled one w) (u ++ w)
-    (Alike-append same_word p (scaled one u) u (scaled one w) w (scaled-unit same_word p one u is) (scaled-unit same_word p one w is))
-    (sum_of_residues p v terms (scaled one u ++ scaled one w) (shown ∙ sym (residues-append p (scaled one u) (scaled one w))) sum)
+pub kept_merge :
+    (p : ℕ) (kept left right : List Term) (u v : Element) → pairs left ≡ u → pairs right ≡ v → IsKept u → IsKept v → length u + length v ≤ most_terms
+    → IsElementOf p (pairs kept) (pairs left ++ pairs right) → length kept ≤ length left + length right → IsKept (pairs kept)
+kept_merge p kept left right u v a b first second few sum count = record {
+  bound = p;
+  reduced = sum.reduced;
+  terms =
+      let i : length (pairs kept) ≡ length kept = length-pairs kept in
+      let j : length left ≡ length u = sym (length-pairs left) ∙ ap length a in
+      let k : length right ≡ length v = sym (length-pairs right) ∙ ap length b in
+      omega arith;
+  lengths = words_of_sum (λ w. word_length w ≤ most_length) p (pairs kept) (u ++ v) (sum_of_views p (pairs kept) left right u v a b sum)
+      (All-append (λ (t : Word × ℕ). word_length t.0 ≤ most_length) u v first.lengths second.lengths);
+}
 
 -- products
 

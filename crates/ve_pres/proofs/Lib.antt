@@ -4,6 +4,9 @@ mod Sums
 mod Reduced
 mod GatheringSteps
 mod Gatherings
+mod Merging
+mod MergeSteps
+mod MovedMerges
 mod Products
 mod KeptElements
 mod InAlgebra

@@ -1,5 +1,5 @@
 -- Reduced lists: terms whose keys fall strictly, with residues other than 0 as coefficients.
-use Rattle.std.proofs.Common.{◌≡◌, ℕ, ◌+◌, ◌%◌, ◌<◌, ◌≤◌, Bool, true, false, cond, [], ◌∷◌, ◌++◌, All, refl, sym, ap, ap₂, ◌∙◌, subst, slice_index_or, arith}
+use Rattle.std.proofs.Common.{◌≡◌, ℕ, ◌+◌, ◌%◌, ◌<◌, Bool, true, false, cond, [], ◌∷◌, ◌++◌, All, refl, sym, ap, ap₂, ◌∙◌, subst, slice_index_or, arith}
 use Rattle.std.proofs.Math.Nat.{mod-eq_of_lt, zero-mod}
 use Rattle.std.proofs.lemmas.Bool.{cond-true, cond-false, false_from_ne_true}
 use Rattle.std.proofs.lemmas.List.Elements.{All-nil, All-cons, All-head, All-tail, All-append, All-weaker}
@@ -61,12 +61,6 @@ IsReduced-front {K} before p (s ∷ v) t h = more (IsReduced-front before p v t 
         last_of : (u : Combination K) → All (λ r. before r.0 s.0) (u ++ t ∷ []) → before t.0 s.0
         last_of [] b = All-head (λ (r : K × ℕ). before r.0 s.0) t [] b
         last_of (r ∷ u) b = last_of u (All-tail (λ (r : K × ℕ). before r.0 s.0) r (u ++ t ∷ []) b)
-
--- coefficients below a greater number
-pub IsReduced-wider : {K : Type 0} (before : K → K → Type 0) (p q : ℕ) (v : Combination K) → p ≤ q → IsReduced before p v → IsReduced before q v
-unfolding IsReduced
-IsReduced-wider before p q [] le h = tt
-IsReduced-wider before p q (t ∷ v) le h = (h.0, omega arith, h.2, IsReduced-wider before p q v le h.3)
 
 -- coefficients that are residues
 pub residues_of_reduced : {K : Type 0} (before : K → K → Type 0) (p : ℕ) (v : Combination K) → IsReduced before p v → All (λ t. (0 < t.1) × (t.1 < p)) v

@@ -1,13 +1,12 @@
 -- Formal sums: coefficients, residues, sums in another order.
-use Rattle.std.proofs.Common.{◌≡◌, ℕ, ◌+◌, ◌*◌, ◌%◌, Bool, true, false, cond, List, [], ◌∷◌, ◌++◌, refl, sym, ap, ap₂, ◌∙◌, arith}
+use Rattle.std.proofs.Common.{◌≡◌, ℕ, ◌+◌, ◌%◌, Bool, true, false, cond, List, [], ◌∷◌, ◌++◌, refl, sym, ap, ap₂, ◌∙◌, arith}
 use Rattle.std.proofs.Math.Nat.{add-mod, mod-mod}
-use Rattle.std.proofs.lemmas.Nat.{mul-mod_first}
 use Rattle.std.specs.List.{sum_by}
 use Rattle.std.specs.List.Sorted.{IsPermutation}
 use Rattle.std.proofs.lemmas.List.Sums.{sum_by-cons}
 use Rattle.std.proofs.lemmas.List.Sorted.{sum_by-IsPermutation, IsPermutation-map}
 use Rattle.ve_theory.specs.Residues.{Congruent}
-use Rattle.ve_theory.specs.Combinations.{Combination, scaled, coefficient, Alike}
+use Rattle.ve_theory.specs.Combinations.{Combination, coefficient, Alike}
 use Rattle.ve_theory.specs.Words.{Word, same_word}
 use Rattle.ve_theory.specs.Elements.{Element}
 use Rattle.ve_pres.specs.declared.term.Term.{Term}
@@ -57,15 +56,4 @@ Alike-residues same p (t ∷ v) k =
   where
     here : (b : Bool) → Congruent p (cond b (t.1 % p) 0) (cond b t.1 0)
     here true = mod-mod t.1 p
-    here false = refl
-
--- one times a sum, by the residue of 1
-pub scaled-unit : {K : Type 0} (same : K → K → Bool) (p one : ℕ) (v : Combination K) → one ≡ 1 % p → Alike same p (scaled one v) v
-unfolding coefficient scaled
-scaled-unit same p one [] is k = refl
-scaled-unit same p one (t ∷ v) is k =
-    congruent-add p (cond (same t.0 k) (one * t.1) 0) (cond (same t.0 k) t.1 0) (coefficient same (scaled one v) k) (coefficient same v k) (here (same t.0 k)) (scaled-unit same p one v is k)
-  where
-    here : (b : Bool) → Congruent p (cond b (one * t.1) 0) (cond b t.1 0)
-    here true = ap (λ n. n * t.1 % p) is ∙ (mul-mod_first 1 t.1 p ∙ ap (λ n. n % p) (let e : 1 * t.1 ≡ t.1 = omega arith in e))
     here false = refl

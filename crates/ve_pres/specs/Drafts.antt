@@ -1,5 +1,6 @@
 -- Presentations that are built line by line, and how each call changes them.
-use Rattle.std.specs.Prelude.{◌≡◌, ℕ, ◌+◌, ◌<◌, ◌≤◌, ◌⊎◌, Bool, true, false, List, [], ◌∷◌, ◌++◌, length, map, set, Option, Some, slice_get, Contains, IsTrue, IsFalse, MatchBool, refl}
+use Rattle.std.specs.Prelude.{◌≡◌, ℕ, ◌+◌, ◌<◌, ◌≤◌, ◌⊎◌, Bool, true, false, List, [], ◌∷◌, ◌++◌, length, map, set, slice_get}
+use Rattle.std.specs.Prelude.{Option, Some, Contains, IsTrue, IsFalse, MatchBool, refl}
 use Rattle.std.specs.Coded.{Coded, code_by, coded×, coded_ℕ, coded_bool, coded_list, coded_option}
 use Rattle.ve_theory.specs.Words.{word_code}
 use Rattle.ve_theory.specs.Elements.{AlgebraElement, Element, halved, IsAlgebraElementOf}
@@ -143,7 +144,8 @@ abbrev pub draft_code : Coded Draft
 draft_code =
     code_by
     (ℕ × (Bool × (ℕ × (List (List ℕ) × (List (Option ℕ) × (List ℕ × (ℕ × (List AlgebraElement × (List Element × ℕ)))))))))
-    (coded× coded_ℕ (coded× coded_bool (coded× coded_ℕ (coded× (coded_list (coded_list coded_ℕ)) (coded× (coded_list (coded_option coded_ℕ)) (coded× (coded_list coded_ℕ) (coded× coded_ℕ
+    (coded× coded_ℕ (coded× coded_bool (coded× coded_ℕ (coded× (coded_list (coded_list coded_ℕ))
+    (coded× (coded_list (coded_option coded_ℕ)) (coded× (coded_list coded_ℕ) (coded× coded_ℕ
     (coded× (coded_list (coded_list (coded× (coded_list coded_ℕ) coded_ℕ))) (coded× (coded_list (coded_list (coded× word_code coded_ℕ))) coded_ℕ)))))))))
     (λ d. (
       d.presentation.version,

@@ -104,6 +104,18 @@ impl FreeAlg {
         Ok(FreeAlg { element })
     }
 
+    /// The sum, which moves the terms of both. Its number of terms is judged before terms of one word are added up.
+    pub fn plus(self, field: &Field, other: FreeAlg) -> Result<FreeAlg, PresFault>
+        requires left { IsReduced ShortlexLetters field.now self }
+        requires right { IsReduced ShortlexLetters field.now other }
+        ensures sum { IfOk result (λ r. IsAlgebraElementOf field.now r (self ++ other)) }
+        ensures letters { IfOk result (λ r. (n : ℕ) → HasLettersBelow n self → HasLettersBelow n other → HasLettersBelow n r) }
+        ensures limit { IsLimitedBy (sum_limit (length self + length other)) result }
+    {
+        let element = self.element.plus(field, other.element)?;
+        Ok(FreeAlg { element })
+    }
+
     /// The product. Its number of terms is judged before terms of one word are added up, and then its length.
     pub fn mul(&self, field: &Field, other: &FreeAlg) -> Result<FreeAlg, PresFault>
         requires left { IsReduced ShortlexLetters field.now self.now }

@@ -12,6 +12,7 @@ ghost use Rattle.ve_pres.specs.Terms.{HasLettersBelow, HasWordsBelow, IsKept, Is
 
 use crate::FreeAlg;
 use crate::limit::{PresFault, check_product, check_sum};
+use crate::merge::{merge, merge_moved, push_copies};
 use crate::term::{Term, gather, times_letters};
 use crate::weights::letters_weight;
 use std::alloc::Global;
@@ -88,12 +89,7 @@ impl FreeMod {
         ensures { IfOk result (λ element. element ≡ self.now) }
     {
         let mut terms = Vec::with_capacity(self.allocator(), self.terms.len())?;
-        for term in &self.terms {
-            terms.push(Term {
-                word: term.word.copy()?,
-                coef: term.coef,
-            })?;
-        }
+        push_copies(&mut terms, &self.terms)?;
         Ok(FreeMod { terms })
     }
 
@@ -122,14 +118,22 @@ impl FreeMod {
         ensures words { IfOk result (λ element. (m n : ℕ) → HasWordsBelow m n self.now → HasWordsBelow m n other.now → HasWordsBelow m n element) }
         ensures limit { IsLimitedBy (sum_limit (length self.now + length other.now)) result }
     {
-        let count = self.term_count() + other.term_count();
-        check_sum(count)?;
-        let alloc = self.allocator();
-        let mut terms = Vec::with_capacity(alloc, count)?;
-        let one = field.reduce(1);
-        self.push_scaled(field, one, &mut terms)?;
-        other.push_scaled(field, one, &mut terms)?;
-        Ok(FreeMod::from_terms(alloc, field, terms)?)
+        check_sum(self.term_count() + other.term_count())?;
+        let terms = merge(self.allocator(), field, &self.terms, &other.terms)?;
+        Ok(FreeMod { terms })
+    }
+
+    /// The sum, which moves the terms of both. Its number of terms is judged before terms of one word are added up.
+    pub fn plus(self, field: &Field, other: FreeMod) -> Result<FreeMod, PresFault>
+        requires left { IsReduced Shortlex field.now self }
+        requires right { IsReduced Shortlex field.now other }
+        ensures sum { IfOk result (λ element. IsElementOf field.now element (self ++ other)) }
+        ensures words { IfOk result (λ element. (m n : ℕ) → HasWordsBelow m n self → HasWordsBelow m n other → HasWordsBelow m n element) }
+        ensures limit { IsLimitedBy (sum_limit (length self + length other)) result }
+    {
+        check_sum(self.term_count() + other.term_count())?;
+        let terms = merge_moved(field, self.terms, other.terms)?;
+        Ok(FreeMod { terms })
     }
 
     /// The product with an element of the algebra. Its number of terms is judged before terms of one word are added up, and then

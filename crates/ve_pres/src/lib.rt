@@ -4,6 +4,7 @@
 mod free_alg;
 mod free_mod;
 mod limit;
+mod merge;
 mod presentation;
 mod term;
 mod weights;

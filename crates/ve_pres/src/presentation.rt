@@ -1,7 +1,8 @@
 //! Presentations: letters, generators and relations, within fixed limits.
 
 ghost use Rattle.std.specs.Prelude.{◌≡◌, ◌+◌, ◌<◌, ◌≤◌, ◌⊎◌, IfOk, IfSome, Some, length, slice_get};
-ghost use Rattle.ve_theory.specs.Presentations.{greatest_step, inverse_relators, letter_count, relator, relator_bound, relators, step, submodule_bound, submodule_relation};
+ghost use Rattle.ve_theory.specs.Presentations.{greatest_step, inverse_relators, letter_count, relator, relator_bound, relators, step};
+ghost use Rattle.ve_theory.specs.Presentations.{submodule_bound, submodule_relation};
 ghost use Rattle.ve_theory.specs.Validity.{IsValid, most_relations};
 ghost use Rattle.ve_pres.specs.Drafts.{IsOpen, bare_draft};
 

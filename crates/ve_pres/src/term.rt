@@ -19,6 +19,18 @@ pub(crate) struct Term {
     pub(crate) coef: u8,
 }
 
+impl Term {
+    /// The same term once more.
+    pub(crate) fn copy(&self) -> Result<Term, Memory>
+        ensures { IfOk result (λ term. term ≡ self.now) }
+    {
+        Ok(Term {
+            word: self.word.copy()?,
+            coef: self.coef,
+        })
+    }
+}
+
 /// The word times letters.
 #[tactic(auto, using(crate::proofs::Words::word_steps))]
 pub(crate) fn times_letters(word: &Word, letters: &[u8]) -> Result<Word, Memory>
@@ -41,7 +53,6 @@ pub(crate) fn gather(
     ensures sum { IfOk result (λ kept. IsElementOf field.now (pairs kept.items) (pairs terms.items)) }
     ensures count { IfOk result (λ kept. length kept.items ≤ length terms.items) }
 {
-    // The sort is a mere merge where the terms are two lists that are in order already.
     terms.sort_by(|a, b| shortlex(&a.word, &b.word))?;
     let mut kept = Vec::with_capacity(alloc, terms.len())?;
     while let Some(term) = terms.pop() {

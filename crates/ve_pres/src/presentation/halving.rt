@@ -32,7 +32,9 @@ impl Presentation {
     fn half(&self, element: &FreeAlg) -> Result<Option<FreeAlg>, Memory>
         requires residues { IsReduced ShortlexLetters self.now.presentation.prime element.now }
         requires letters { All (λ t. HasLetters self.now.presentation t.0) element.now }
-        ensures { IfOk result (λ found. MatchOption found (half_of self.now.presentation.inverses element.now ≡ element.now) (IsHalf self.now.presentation element.now)) }
+        ensures { IfOk result (λ found. MatchOption found
+            (half_of self.now.presentation.inverses element.now ≡ element.now)
+            (IsHalf self.now.presentation element.now)) }
     {
         if element.term_count() != 2 {
             return Ok(None);
@@ -57,7 +59,9 @@ impl Presentation {
     fn half_words(&self, longer: &[u8], shorter: &[u8]) -> Result<Option<(Word, Word)>, Memory>
         requires letters { HasLetters self.now.presentation longer.now }
         requires lengths { length shorter.now ≤ length longer.now }
-        ensures { IfOk result (λ found. MatchOption found (inverse_of_letters self.now.presentation.inverses (drop (kept_of longer.now shorter.now) longer.now) ≡ None) (λ words. AreHalfWords self.now.presentation longer.now shorter.now words.0 words.1)) }
+        ensures { IfOk result (λ found. MatchOption found
+            (inverse_of_letters self.now.presentation.inverses (drop (kept_of longer.now shorter.now) longer.now) ≡ None)
+            (λ words. AreHalfWords self.now.presentation longer.now shorter.now words.0 words.1)) }
     {
         let kept = longer.len() - (longer.len() - shorter.len()) / 2;
         let (front, back) = longer.split_at(kept);
@@ -73,7 +77,9 @@ impl Presentation {
     // The word times the inverse of letters, where each letter has one.
     fn times_inverse(&self, word: Word, letters: &[u8]) -> Result<Option<Word>, Memory>
         requires { HasLetters self.now.presentation letters.now }
-        ensures { IfOk result (λ found. MatchOption found (inverse_of_letters self.now.presentation.inverses letters.now ≡ None) (IsInverseProduct self.now.presentation word letters.now)) }
+        ensures { IfOk result (λ found. MatchOption found
+            (inverse_of_letters self.now.presentation.inverses letters.now ≡ None)
+            (IsInverseProduct self.now.presentation word letters.now)) }
     {
         let mut product = word;
         let mut left = letters.len();

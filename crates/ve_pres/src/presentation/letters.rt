@@ -79,7 +79,8 @@ impl Letters {
         letter: u8,
         inverse: u8,
     ) -> Result<(), NameFault>
-        ensures relators { OnOk result (self.new.relators.items ≡ self.old.relators.items ++ ((letter ∷ inverse ∷ [], 1) ∷ ([], field.now - 1) ∷ []) ∷ []) }
+        ensures relators { OnOk result (self.new.relators.items
+            ≡ self.old.relators.items ++ ((letter ∷ inverse ∷ [], 1) ∷ ([], field.now - 1) ∷ []) ∷ []) }
         ensures names { self.new.names ≡ self.old.names }
         ensures inverses { self.new.inverses ≡ self.old.inverses }
         ensures weights { self.new.weights ≡ self.old.weights }
@@ -108,7 +109,9 @@ impl Letters {
     pub(crate) fn bound(&self) -> u32
         requires letters { All (λ r. All (λ t. All (λ x. x < length self.now.weights.items) t.0) r) self.now.relators.items }
         requires weights { All (λ w. w ≤ most_weight) self.now.weights.items }
-        ensures { result ≡ max (max 1 (greatest_of (λ w. w) self.now.weights.items)) (greatest_of (algebra_weight self.now.weights.items) self.now.relators.items) }
+        ensures { result ≡ max
+            (max 1 (greatest_of (λ w. w) self.now.weights.items))
+            (greatest_of (algebra_weight self.now.weights.items) self.now.relators.items) }
     {
         let mut bound = u32::from(self.greatest_weight());
         for relator in &self.relators {

@@ -45,7 +45,8 @@ impl Presentation {
         requires name { IsTrue (is_name name.now) }
         requires inverse { IsTrue (is_name inverse.now) }
         requires open { IsOpen self.old }
-        ensures ok { OnOk result (let n = letter_count self.old.presentation in self.new ≡ with_letters self.old (name.now ∷ inverse.now ∷ []) (Some (n + 1) ∷ Some n ∷ [])) }
+        ensures ok { OnOk result (let n = letter_count self.old.presentation in
+            self.new ≡ with_letters self.old (name.now ∷ inverse.now ∷ []) (Some (n + 1) ∷ Some n ∷ [])) }
         ensures letter { IfOk result (λ letter. letter ≡ letter_count self.old.presentation) }
         ensures first { OnOk result (IsNewName self.old.presentation.names name.now) }
         ensures second { OnOk result (IsNewName (self.old.presentation.names ++ name.now ∷ []) inverse.now) }
@@ -131,7 +132,13 @@ impl Presentation {
     fn set_letters(&mut self, letters: Letters)
         requires open { IsOpen self.old }
         requires letters { AreLetters self.old.presentation.version self.old.presentation.prime letters }
-        ensures { self.new ≡ record self.old { presentation = record self.old.presentation { names = letters.names; inverses = letters.inverses.items; weights = letters.weights.items } } }
+        ensures { self.new ≡ record self.old {
+          presentation = record self.old.presentation {
+            names = letters.names;
+            inverses = letters.inverses.items;
+            weights = letters.weights.items;
+          };
+        } }
     {
         self.d = letters.bound();
         self.cells = INVERSE_CELLS * letters.relators.len() as u64;

@@ -1,9 +1,10 @@
 use Rattle.ve_theory.specs.Combinations.{IsReduced}
 use Rattle.ve_theory.specs.Words.{ShortlexLetters}
+use Rattle.ve_pres.specs.Terms.{HasLettersBelow}
 use Rattle.ve_pres.proofs.tests.element_of.Given as goal
 
 abbrev pub invariant-loop-coef : goal.invariant-loop-coef
-invariant-loop-coef l = IsReduced ShortlexLetters l.field l.sum
+invariant-loop-coef l = IsReduced ShortlexLetters l.field l.sum × HasLettersBelow l.count l.sum
 
 abbrev pub invariant-loop-letter : goal.invariant-loop-letter
-invariant-loop-letter l = IsReduced ShortlexLetters l.field l.product
+invariant-loop-letter l = IsReduced ShortlexLetters l.field l.product × HasLettersBelow l.count l.product
