@@ -1,7 +1,8 @@
--- Each formal sum has a reduced list.
-use Rattle.std.proofs.Common.{◌≡◌, ℕ, ◌+◌, ◌%◌, ◌<◌, ◌≤◌, ◌⊎◌, inl, inr, Bool, true, false, cond, [], ◌∷◌, refl, sym, ap, ap₂, ◌∙◌, arith}
+-- Each formal sum has a reduced list. Its keys are among those of the sum, so it is no longer.
+use Rattle.std.proofs.Common.{◌≡◌, ℕ, ◌+◌, ◌%◌, ◌<◌, ◌≤◌, ◌⊎◌, inl, inr, Bool, true, false, cond, [], ◌∷◌, length, All, refl, sym, ap, ap₂, ◌∙◌, arith}
 use Rattle.std.proofs.Math.Nat.{zero-mod, add-mod, mod-mod}
 use Rattle.std.proofs.lemmas.Bool.{cases_lt}
+use Rattle.std.proofs.lemmas.List.Elements.{All-cons, All-head, All-tail}
 use Rattle.ve_theory.specs.Combinations.{Combination, coefficient, Alike, AllBefore, IsReduced, IsReducedOf}
 
 pub record IsKeyOrder {K : Type 0} (before : K → K → Type 0) (same : K → K → Bool) : Type 0 where
@@ -12,13 +13,19 @@ pub record IsKeyOrder {K : Type 0} (before : K → K → Type 0) (same : K → K
 congruent_sum : (p a b c d : ℕ) → a % p ≡ b % p → c % p ≡ d % p → (a + c) % p ≡ (b + d) % p
 congruent_sum p a b c d h k = add-mod a c p ∙ ap₂ (λ x y. (x + y) % p) h k ∙ sym (add-mod b d p)
 
-module _ {K : Type 0} (before : K → K → Type 0) (same : K → K → Bool) (order : IsKeyOrder before same) (p : ℕ) (some : 0 < p) where
+module _ {K : Type 0} (before : K → K → Type 0) (same : K → K → Bool) (order : IsKeyOrder before same) (Q : K → Type 0) (p : ℕ) (some : 0 < p) where
+  -- what holds of each key
+  abbrev HoldsOf : Combination K → Type 0
+  HoldsOf v = All (λ t. Q t.0) v
+
   -- the reduced list of a term and a reduced list
   record Inserted (t : K × ℕ) (v : Combination K) : Type 0 where
     list : Combination K
     reduced : IsReduced before p list
     alike : Alike same p list (t ∷ v)
     bounded : (m : K) → before t.0 m → AllBefore before m v → AllBefore before m list
+    keys : Q t.0 → HoldsOf v → HoldsOf list
+    short : length list ≤ length v + 1
 
   bounded_by : (j k : K) (v : Combination K) → before j k → AllBefore before j v → AllBefore before k v
   unfolding AllBefore
@@ -39,6 +46,8 @@ module _ {K : Type 0} (before : K → K → Type 0) (same : K → K → Bool) (o
         reduced = (counts, below_mod t.1, above, reduced);
         alike = λ k. congruent_sum p (cond (same t.0 k) (t.1 % p) 0) (cond (same t.0 k) t.1 0) (coefficient same v k) (coefficient same v k) (residue (same t.0 k)) refl;
         bounded = λ m h b. (h, b);
+        keys = λ q all. All-cons (λ (s : K × ℕ). Q s.0) (t.0, t.1 % p) v q all;
+        short = omega arith;
       }
         where
           residue : (test : Bool) → cond test (t.1 % p) 0 % p ≡ cond test t.1 0 % p
@@ -49,6 +58,8 @@ module _ {K : Type 0} (before : K → K → Type 0) (same : K → K → Bool) (o
         reduced = reduced;
         alike = λ k. ap (λ n. n % p) (zero_add (coefficient same v k)) ∙ congruent_sum p 0 (cond (same t.0 k) t.1 0) (coefficient same v k) (coefficient same v k) (vanishes (same t.0 k)) refl;
         bounded = λ m h b. b;
+        keys = λ q all. all;
+        short = omega arith;
       }
         where
           zero_add : (n : ℕ) → n ≡ 0 + n
@@ -72,6 +83,8 @@ module _ {K : Type 0} (before : K → K → Type 0) (same : K → K → Bool) (o
             congruent_sum p (cond (same u.0 k) u.1 0) (cond (same u.0 k) u.1 0) (coefficient same later.list k) (cond (same t.0 k) t.1 0 + coefficient same v k) refl (later.alike k)
             ∙ ap (λ n. n % p) (swapped (cond (same u.0 k) u.1 0) (cond (same t.0 k) t.1 0) (coefficient same v k));
         bounded = λ m h b. (b.0, later.bounded m h b.1);
+        keys = λ q all. All-cons (λ (s : K × ℕ). Q s.0) u later.list (All-head (λ (s : K × ℕ). Q s.0) u v all) (later.keys q (All-tail (λ (s : K × ℕ). Q s.0) u v all));
+        short = omega (arith, later.short);
       }
         where
           swapped : (a b c : ℕ) → a + (b + c) ≡ b + (a + c)
@@ -83,6 +96,8 @@ module _ {K : Type 0} (before : K → K → Type 0) (same : K → K → Bool) (o
             reduced = joined.reduced;
             alike = λ k. joined.alike k ∙ ap (λ n. n % p) (both (same u.0 k) (same t.0 k) (coefficient same v k) (ap (λ j. same j k) equal));
             bounded = λ m h b. joined.bounded m b.0 b.1;
+            keys = λ q all. joined.keys (All-head (λ (s : K × ℕ). Q s.0) u v all) (All-tail (λ (s : K × ℕ). Q s.0) u v all);
+            short = omega (arith, joined.short);
           }
         where
           both : (one other : Bool) (n : ℕ) → one ≡ other → cond one (u.1 + t.1) 0 + n ≡ cond other t.1 0 + (cond one u.1 0 + n)
@@ -92,15 +107,24 @@ module _ {K : Type 0} (before : K → K → Type 0) (same : K → K → Bool) (o
           both false true n e = absurd (cc)
 
   -- the reduced list of a sum
-  pub collected : (e : Combination K) → (v : Combination K) × IsReducedOf before same p v e
+  pub record Collected (e : Combination K) : Type 0 where
+    pub list : Combination K
+    pub holds : IsReducedOf before same p list e
+    pub keys : HoldsOf e → HoldsOf list
+    pub short : length list ≤ length e
+
+  pub collected : (e : Combination K) → Collected e
   unfolding IsReduced coefficient
-  collected [] = ([], record { reduced = tt; alike = λ k. refl })
+  collected [] = record { list = []; holds = record { reduced = tt; alike = λ k. refl }; keys = λ all. all; short = omega arith }
   collected (t ∷ e) =
       let later = collected e in
-      let next : Inserted t later.0 = inserted t later.0 later.1.reduced in (
-        next.list,
-        record {
+      let next : Inserted t later.list = inserted t later.list later.holds.reduced in
+      record {
+        list = next.list;
+        holds = record {
           reduced = next.reduced;
-          alike = λ k. next.alike k ∙ congruent_sum p (cond (same t.0 k) t.1 0) (cond (same t.0 k) t.1 0) (coefficient same later.0 k) (coefficient same e k) refl (later.1.alike k);
-        },
-      )
+          alike = λ k. next.alike k ∙ congruent_sum p (cond (same t.0 k) t.1 0) (cond (same t.0 k) t.1 0) (coefficient same later.list k) (coefficient same e k) refl (later.holds.alike k);
+        };
+        keys = λ all. next.keys (All-head (λ (s : K × ℕ). Q s.0) t e all) (later.keys (All-tail (λ (s : K × ℕ). Q s.0) t e all));
+        short = omega (arith, next.short, later.short);
+      }

@@ -41,13 +41,13 @@ after f (Err cause) = Err cause
 module _ (unique : ReducedListsAreUnique) (p : ℕ) (some : 0 < p) where
   pub one_list : (e : AlgebraElement) → ExactlyOne (λ v. IsAlgebraElementOf p v e)
   one_list e =
-      let list = collected ShortlexLetters same_letters letters_order p some e in
-      record { it = list.0; holds = list.1; only = λ other h. unique.algebra p other list.0 h.reduced list.1.reduced (λ k. h.alike k ∙ sym (list.1.alike k)) }
+      let list = collected ShortlexLetters same_letters letters_order (λ k. Unit {0}) p some e in
+      record { it = list.list; holds = list.holds; only = λ other h. unique.algebra p other list.list h.reduced list.holds.reduced (λ k. h.alike k ∙ sym (list.holds.alike k)) }
 
   pub one_module_list : (e : Element) → ExactlyOne (λ v. IsElementOf p v e)
   one_module_list e =
-      let list = collected Shortlex same_word words_order p some e in
-      record { it = list.0; holds = list.1; only = λ other h. unique.elements p other list.0 h.reduced list.1.reduced (λ k. h.alike k ∙ sym (list.1.alike k)) }
+      let list = collected Shortlex same_word words_order (λ k. Unit {0}) p some e in
+      record { it = list.list; holds = list.holds; only = λ other h. unique.elements p other list.list h.reduced list.holds.reduced (λ k. h.alike k ∙ sym (list.holds.alike k)) }
 
   pub one_sum : (u v : AlgebraElement) → ExactlyOne (AddsUp p u v)
   one_sum u v = by_count (cases_lt most_terms (length u + length v))

@@ -1,35 +1,22 @@
 -- The form of a line is a function of its tokens.
 use Rattle.std.proofs.Common.{◌≡◌, ◌≢◌, ℕ, Bool, true, false, not, cond, subst, ◌&&◌, ◌⊎◌, inl, inr, List, [], ◌∷◌, ◌++◌, Option, Some, None, refl, sym, ap, ◌∙◌, append_assoc, append-nil}
-use Rattle.std.specs.Prelude.{nat_eq, codes}
+use Rattle.std.specs.Prelude.{codes}
 use Rattle.std.proofs.lemmas.Bool.{eqb-true, and_parts, and_from, not-true}
 use Rattle.ve_theory.specs.Words.{same_letters}
 use Rattle.ve_formats.specs.Tokens.{Token, name, number, symbol, number_value}
 use Rattle.ve_formats.specs.Expressions as algebra
 use Rattle.ve_formats.specs.Expressions.{Expression, Rank, Spell, equals_sign, open_sign, close_sign, plus_sign, minus_sign, times_sign, power_sign}
-use Rattle.ve_formats.specs.PresentationLines.{Declared, Line, version, prime, letter, pair, involution, generators, balance, relation, submodule, end, word, SpellDeclared, plain, weighted, SpellLine, a_version, a_prime, a_letter, a_pair, an_involution, some_generators, a_balance, a_relation, a_submodule_relation, the_end}
+use Rattle.ve_formats.specs.ModuleExpressions as modules
+use Rattle.ve_formats.specs.ModuleExpressions.{ModuleExpression, ModuleRank, ModuleSpell}
+use Rattle.ve_formats.specs.PresentationLines.{Declared, Line, version, prime, pair, involution, generators, balance, relation, submodule, end, word, SpellDeclared, plain, weighted, SpellLine, a_version, a_prime, a_letter, a_pair, an_involution, some_generators, a_balance, a_relation, a_submodule_relation, the_end}
+use Rattle.ve_formats.specs.Reading.{parsed}
+use Rattle.ve_formats.specs.ModuleReading.{module_parsed}
+use Rattle.ve_formats.specs.LineReading.{Sides, is_equals, before_sides, sides, Keyword, of_version, of_prime, of_letter, of_involution, of_generators, of_balance, of_relation, of_submodule, of_end, of_nothing, keyword_bytes, first_of, keywords, keyword, Taken, unweighted, with_weight, take_weight, take_declared, one_number, alone, declared_alone, letter_or_pair, letters_form, two, equation, form_behind, form_of}
 use Rattle.ve_formats.proofs.SameNames.{same_letters-true}
-use Rattle.ve_formats.proofs.Parsing.{parsed, parsed-spelled}
+use Rattle.ve_formats.proofs.Parsing.{parsed-spelled}
 use Rattle.ve_formats.proofs.ParsedSpelling.{spelled-parsed}
-use Rattle.ve_formats.proofs.ModuleParsing.{module_parsed, module_parsed-spelled, spelled-module_parsed, as_algebra}
-
--- the sides of an equation: no equals sign stands in an expression
-
-record Sides : Type 0 where
-  left : List Token
-  right : List Token
-
-abbrev is_equals : Token → Bool
-is_equals (name x) = false
-is_equals (number digits) = false
-is_equals (symbol b) = nat_eq b 61
-
-abbrev before_sides : Token → Option Sides → Option Sides
-before_sides t (Some s) = Some (record { left = t ∷ s.left; right = s.right })
-before_sides t None = None
-
-unfoldable sides : List Token → Option Sides
-sides [] = None
-sides (t ∷ ts) = cond (is_equals t) (Some (record { left = []; right = ts })) (before_sides t (sides ts))
+use Rattle.ve_formats.proofs.ModuleParsing.{module_parsed-spelled}
+use Rattle.ve_formats.proofs.ModuleParsedSpelling.{spelled-module_parsed}
 
 unfoldable has_no_equals : List Token → Bool
 has_no_equals [] = true
@@ -58,6 +45,22 @@ spelled_has_no_equals (algebra.with_plus h) = spelled_has_no_equals h
 spelled_has_no_equals (algebra.with_minus h) = spelled_has_no_equals h
 spelled_has_no_equals (algebra.added {front} {back} h k are) = ap has_no_equals are ∙ has_no_equals-append front (plus_sign ∷ back) (spelled_has_no_equals h) (spelled_has_no_equals k)
 spelled_has_no_equals (algebra.subtracted {front} {back} h k are) = ap has_no_equals are ∙ has_no_equals-append front (minus_sign ∷ back) (spelled_has_no_equals h) (spelled_has_no_equals k)
+
+module_spelled_has_no_equals : {rank : ModuleRank} {tokens : List Token} {m : ModuleExpression} → ModuleSpell rank tokens m → has_no_equals tokens ≡ true
+unfolding has_no_equals
+module_spelled_has_no_equals (modules.a_generator x) = refl
+module_spelled_has_no_equals (modules.scaled digits x) = refl
+module_spelled_has_no_equals (modules.multiplied {front} {back} h k are) =
+    ap has_no_equals are ∙ has_no_equals-append front (times_sign ∷ back) (module_spelled_has_no_equals h) (spelled_has_no_equals k)
+module_spelled_has_no_equals (modules.a_zero digits zero) = refl
+module_spelled_has_no_equals (modules.a_term h) = module_spelled_has_no_equals h
+module_spelled_has_no_equals (modules.first_term h) = module_spelled_has_no_equals h
+module_spelled_has_no_equals (modules.with_plus h) = module_spelled_has_no_equals h
+module_spelled_has_no_equals (modules.with_minus h) = module_spelled_has_no_equals h
+module_spelled_has_no_equals (modules.added {front} {back} h k are) =
+    ap has_no_equals are ∙ has_no_equals-append front (plus_sign ∷ back) (module_spelled_has_no_equals h) (module_spelled_has_no_equals k)
+module_spelled_has_no_equals (modules.subtracted {front} {back} h k are) =
+    ap has_no_equals are ∙ has_no_equals-append front (minus_sign ∷ back) (module_spelled_has_no_equals h) (module_spelled_has_no_equals k)
 
 sides-append : (front back : List Token) → has_no_equals front ≡ true → sides (front ++ equals_sign ∷ back) ≡ Some (record { left = front; right = back })
 unfolding sides has_no_equals
@@ -91,42 +94,6 @@ sides-sound (t ∷ tokens) s h = by_test (is_equals t) refl (λ more is. sides-s
         subst (λ (s : Sides). t ∷ tokens ≡ s.left ++ equals_sign ∷ s.right) same (ap (λ u. u ∷ tokens) (is_equals-sign t is))
     by_test false is rest h = later (sides tokens) refl rest h
 
--- the words that lines begin with
-
-data Keyword : Type 0 where
-  of_version : Keyword
-  of_prime : Keyword
-  of_letter : Keyword
-  of_involution : Keyword
-  of_generators : Keyword
-  of_balance : Keyword
-  of_relation : Keyword
-  of_submodule : Keyword
-  of_end : Keyword
-  of_nothing : Keyword
-
-abbrev keyword_bytes : Keyword → List ℕ
-keyword_bytes of_version = codes "venum"
-keyword_bytes of_prime = codes "prime"
-keyword_bytes of_letter = codes "letter"
-keyword_bytes of_involution = codes "involution"
-keyword_bytes of_generators = codes "module"
-keyword_bytes of_balance = codes "balance"
-keyword_bytes of_relation = codes "relation"
-keyword_bytes of_submodule = codes "sub"
-keyword_bytes of_end = codes "end"
-keyword_bytes of_nothing = []
-
-abbrev first_of : List ℕ → List Keyword → Keyword
-first_of x [] = of_nothing
-first_of x (k ∷ ks) = cond (same_letters x (keyword_bytes k)) k (first_of x ks)
-
-abbrev keywords : List Keyword
-keywords = of_version ∷ of_prime ∷ of_letter ∷ of_involution ∷ of_generators ∷ of_balance ∷ of_relation ∷ of_submodule ∷ of_end ∷ []
-
-abbrev keyword : List ℕ → Keyword
-keyword x = first_of x keywords
-
 first_of-sound : (x : List ℕ) (ks : List Keyword) → first_of x ks ≢ of_nothing → x ≡ keyword_bytes (first_of x ks)
 first_of-sound x [] some = absurd (some refl)
 first_of-sound x (k ∷ ks) some = by_test (same_letters x (keyword_bytes k)) refl (λ later. first_of-sound x ks later) some
@@ -138,33 +105,6 @@ first_of-sound x (k ∷ ks) some = by_test (same_letters x (keyword_bytes k)) re
 
 keyword-sound : (x : List ℕ) (k : Keyword) → keyword x ≡ k → k ≢ of_nothing → x ≡ keyword_bytes k
 keyword-sound x k h some = first_of-sound x keywords (λ e. some (sym h ∙ e)) ∙ ap keyword_bytes h
-
--- a declared letter, and the tokens behind it
-
-record Taken : Type 0 where
-  declared : Declared
-  behind : List Token
-
-abbrev unweighted : List ℕ → List Token → Taken
-unweighted x behind = record { declared = record { called = x; weight = None }; behind = behind }
-
-abbrev with_weight : List ℕ → List ℕ → List Token → Taken
-with_weight x digits behind = record { declared = record { called = x; weight = Some (number_value digits) }; behind = behind }
-
-unfoldable take_weight : List ℕ → List Token → Taken
-take_weight x [] = unweighted x []
-take_weight x (name k ∷ []) = unweighted x (name k ∷ [])
-take_weight x (name k ∷ number digits ∷ ts) = cond (same_letters k (codes "weight")) (with_weight x digits ts) (unweighted x (name k ∷ number digits ∷ ts))
-take_weight x (name k ∷ name y ∷ ts) = unweighted x (name k ∷ name y ∷ ts)
-take_weight x (name k ∷ symbol b ∷ ts) = unweighted x (name k ∷ symbol b ∷ ts)
-take_weight x (number digits ∷ ts) = unweighted x (number digits ∷ ts)
-take_weight x (symbol b ∷ ts) = unweighted x (symbol b ∷ ts)
-
-unfoldable take_declared : List Token → Option Taken
-take_declared [] = None
-take_declared (name x ∷ ts) = Some (take_weight x ts)
-take_declared (number digits ∷ ts) = None
-take_declared (symbol b ∷ ts) = None
 
 abbrev inverse_word : Token
 inverse_word = word (codes "inverse")
@@ -212,60 +152,6 @@ take_declared-sound (name x ∷ ts) t h = let same : take_weight x ts ≡ t = (c
 take_declared-sound (number digits ∷ ts) t h = absurd (cc)
 take_declared-sound (symbol b ∷ ts) t h = absurd (cc)
 
--- the form of a line, by its first word
-
-abbrev one_number : (ℕ → Line) → List Token → Option Line
-one_number form [] = None
-one_number form (name x ∷ ts) = None
-one_number form (symbol b ∷ ts) = None
-one_number form (number digits ∷ []) = Some (form (number_value digits))
-one_number form (number digits ∷ t ∷ ts) = None
-
-abbrev alone : Line → List Token → Option Line
-alone form [] = Some form
-alone form (t ∷ ts) = None
-
-abbrev declared_alone : (Declared → Line) → Option Taken → Option Line
-declared_alone form None = None
-declared_alone form (Some t) = alone (form t.declared) t.behind
-
-abbrev letter_or_pair : Declared → List Token → Option Line
-letter_or_pair x [] = Some (letter x)
-letter_or_pair x (name k ∷ ts) = cond (same_letters k (codes "inverse")) (declared_alone (pair x) (take_declared ts)) None
-letter_or_pair x (number digits ∷ ts) = None
-letter_or_pair x (symbol b ∷ ts) = None
-
-abbrev letters_form : Option Taken → Option Line
-letters_form None = None
-letters_form (Some t) = letter_or_pair t.declared t.behind
-
-abbrev two : {X : Type 0} → (X → X → Line) → Option X → Option X → Option Line
-two form (Some d) (Some e) = Some (form d e)
-two form (Some d) None = None
-two form None e = None
-
-abbrev equation : {X : Type 0} → (X → X → Line) → (List Token → Option X) → Option Sides → Option Line
-equation form parse None = None
-equation form parse (Some s) = two form (parse s.left) (parse s.right)
-
-abbrev form_behind : Keyword → List Token → Option Line
-form_behind of_version ts = one_number version ts
-form_behind of_prime ts = one_number prime ts
-form_behind of_letter ts = letters_form (take_declared ts)
-form_behind of_involution ts = declared_alone involution (take_declared ts)
-form_behind of_generators ts = one_number generators ts
-form_behind of_balance ts = alone balance ts
-form_behind of_relation ts = equation relation parsed (sides ts)
-form_behind of_submodule ts = equation submodule module_parsed (sides ts)
-form_behind of_end ts = alone end ts
-form_behind of_nothing ts = None
-
-pub form_of : List Token → Option Line
-form_of [] = None
-form_of (name x ∷ ts) = form_behind (keyword x) ts
-form_of (number digits ∷ ts) = None
-form_of (symbol b ∷ ts) = None
-
 -- the tokens of a form have it
 
 equation_of : {X : Type 0} (form : X → X → Line) (parse : List Token → Option X) (front back : List Token) (d e : X) → has_no_equals front ≡ true → parse front ≡ Some d → parse back ≡ Some e
@@ -285,7 +171,7 @@ form_of-spelled a_balance = refl
 form_of-spelled (a_relation {front} {back} {d} {e} h k are) =
     ap form_of are ∙ equation_of relation parsed front back d e (spelled_has_no_equals h) (parsed-spelled h) (parsed-spelled k)
 form_of-spelled (a_submodule_relation {front} {back} {d} {e} h k are) =
-    ap form_of are ∙ equation_of submodule module_parsed front back d e (spelled_has_no_equals (as_algebra h)) (module_parsed-spelled h) (module_parsed-spelled k)
+    ap form_of are ∙ equation_of submodule module_parsed front back d e (module_spelled_has_no_equals h) (module_parsed-spelled h) (module_parsed-spelled k)
 form_of-spelled the_end = refl
 
 -- tokens that have a form spell it

@@ -1,314 +1,270 @@
--- Expressions of the module are expressions of the algebra of a certain form.
-use Rattle.std.proofs.Common.{◌≡◌, ◌≢◌, ℕ, Bool, true, false, cond, subst, List, [], ◌∷◌, ◌++◌, Option, Some, None, refl, sym, ap, ◌∙◌}
+-- The tokens of an expression of the module are read as that expression.
+use Rattle.std.proofs.Common.{◌≡◌, ℕ, Bool, true, false, cond, List, [], ◌∷◌, ◌++◌, Option, Some, None, subst, refl, sym, ap, ◌∙◌}
 use Rattle.std.specs.Prelude.{nat_eq}
-use Rattle.std.proofs.lemmas.Bool.{eqb-true}
 use Rattle.ve_formats.specs.Tokens.{Token, name, number, number_value}
 use Rattle.ve_formats.specs.Expressions as algebra
-use Rattle.ve_formats.specs.Expressions.{Expression, constant, letter, grouped, power, inverse_power, Rank, Spell, a_number, a_name, in_parentheses, a_factor, raised, raised_inverse, times_sign, minus_sign}
+use Rattle.ve_formats.specs.Expressions.{Expression, grouped, Rank, atom, factor, Spell, a_number, a_name, in_parentheses, a_factor, raised, raised_inverse, open_sign, close_sign, plus_sign, minus_sign, times_sign, power_sign}
 use Rattle.ve_formats.specs.ModuleExpressions as modules
 use Rattle.ve_formats.specs.ModuleExpressions.{ModuleExpression, nothing, generator, ModuleRank, generated, ModuleSpell, a_generator, scaled, a_zero}
-use Rattle.ve_formats.proofs.Parsing.{parsed, parsed-spelled}
-use Rattle.ve_formats.proofs.ParsedSpelling.{spelled-parsed}
+use Rattle.ve_formats.specs.Reading.{Frame, Reading, wanted, stands, raising, inverting, Reader, reading, joining, blank, closed, at_wanted, at_standing, at_raising, read, read_all, expression_read}
+use Rattle.ve_formats.specs.ModuleReading.{ModuleReader, module_stuck, module_reading, term_wanted, multiplying, module_start, factor_start, in_factor, before_term, behind_term, behind_number, behind_factor, module_read, module_read_all, module_expression_read, module_parsed}
+use Rattle.ve_formats.proofs.Parsing.{read_all-append, ReadsAtom, ReadsFactor, ReadsTerm, ReadsWhole, reads}
 
--- the same tokens as an expression of the algebra
-unfoldable pub in_algebra : ModuleExpression → Expression
-in_algebra nothing = constant 0
-in_algebra (generator None e) = letter e
-in_algebra (generator (Some n) e) = algebra.product (constant n) (letter e)
-in_algebra (modules.product d e) = algebra.product (in_algebra d) e
-in_algebra (modules.opposite e) = algebra.opposite (in_algebra e)
-in_algebra (modules.sum d e) = algebra.sum (in_algebra d) (in_algebra e)
-in_algebra (modules.difference d e) = algebra.difference (in_algebra d) (in_algebra e)
+module_read_all-append : (r : ModuleReader) (front back : List Token) → module_read_all r (front ++ back) ≡ module_read_all (module_read_all r front) back
+unfolding module_read_all
+module_read_all-append r [] back = refl
+module_read_all-append r (t ∷ front) back = module_read_all-append (module_read r t) front back
 
-abbrev number_of : Expression → Option ℕ
-number_of (constant n) = Some n
-number_of _ = None
+-- Within a factor the reader of the module only passes tokens on.
 
-abbrev name_of : Expression → Option (List ℕ)
-name_of (letter x) = Some x
-name_of _ = None
+abbrev PassesOn : Reader → List Token → Type 0
+PassesOn r tokens = (joins : ModuleExpression → ModuleExpression) (m : ModuleExpression) → module_read_all (module_reading joins (multiplying m r)) tokens ≡ in_factor joins m (read_all r tokens)
 
-abbrev scaled_generator : Option ℕ → Option (List ℕ) → Option ModuleExpression
-scaled_generator (Some n) (Some x) = Some (generator (Some n) x)
-scaled_generator (Some n) None = None
-scaled_generator None x = None
+-- a token at which no factor ends, and one that ends no factor
 
--- a product, of what its left factor is read as
-abbrev as_product : Expression → Expression → Option ModuleExpression → Option ModuleExpression
-as_product d e (Some m) = Some (modules.product m e)
-as_product d e None = scaled_generator (number_of d) (name_of e)
+at_unfinished : (r : Reader) → expression_read r ≡ None → (t : Token) → PassesOn r (t ∷ [])
+unfolding module_read_all module_read behind_factor read_all
+at_unfinished r none t joins m = ap (λ whole. behind_factor joins m r whole t) none
 
-unfoldable as_generated : Expression → Option ModuleExpression
-as_generated (letter x) = Some (generator None x)
-as_generated (algebra.product d e) = as_product d e (as_generated d)
-as_generated _ = None
+module _ (joins : ModuleExpression → ModuleExpression) (m : ModuleExpression) (r : Reader) where
+  behind_factor-close : (whole : Option Expression) → behind_factor joins m r whole close_sign ≡ in_factor joins m (read r close_sign)
+  unfolding behind_factor
+  behind_factor-close (Some e) = refl
+  behind_factor-close None = refl
 
-unfoldable as_term : Expression → Option ModuleExpression
-as_term (constant n) = cond (nat_eq n 0) (Some nothing) None
-as_term e = as_generated e
+  behind_factor-power : (whole : Option Expression) → behind_factor joins m r whole power_sign ≡ in_factor joins m (read r power_sign)
+  unfolding behind_factor
+  behind_factor-power (Some e) = refl
+  behind_factor-power None = refl
 
-abbrev as_opposite : Option ModuleExpression → Option ModuleExpression
-as_opposite (Some m) = Some (modules.opposite m)
-as_opposite None = None
+at_close : (r : Reader) → PassesOn r (close_sign ∷ [])
+unfolding module_read_all module_read read_all
+at_close r joins m = behind_factor-close joins m r (expression_read r)
 
-abbrev joined : (ModuleExpression → ModuleExpression → ModuleExpression) → Option ModuleExpression → Option ModuleExpression → Option ModuleExpression
-joined join (Some m) (Some n) = Some (join m n)
-joined join (Some m) None = None
-joined join None n = None
+at_power : (r : Reader) → PassesOn r (power_sign ∷ [])
+unfolding module_read_all module_read read_all
+at_power r joins m = behind_factor-power joins m r (expression_read r)
 
-unfoldable as_whole : Expression → Option ModuleExpression
-as_whole (algebra.opposite e) = as_opposite (as_term e)
-as_whole (algebra.sum d e) = joined modules.sum (as_whole d) (as_term e)
-as_whole (algebra.difference d e) = joined modules.difference (as_whole d) (as_term e)
-as_whole e = as_term e
+-- where no factor ends
 
-abbrev read_module : Option Expression → Option ModuleExpression
-read_module (Some e) = as_whole e
-read_module None = None
+none_wanted : (stack : List Frame) (frame : Frame) (first : Bool) → expression_read (reading stack frame (wanted first)) ≡ None
+unfolding expression_read
+none_wanted [] frame first = refl
+none_wanted (outer ∷ stack) frame first = refl
 
-pub module_parsed : List Token → Option ModuleExpression
-module_parsed tokens = read_module (parsed tokens)
+none_raising : (stack : List Frame) (frame : Frame) (e : Expression) → expression_read (reading stack frame (raising e)) ≡ None
+unfolding expression_read
+none_raising [] frame e = refl
+none_raising (outer ∷ stack) frame e = refl
 
--- a generator with factors is a term, a term is a whole expression
-generated_term : (e : Expression) (m : ModuleExpression) → as_generated e ≡ Some m → as_term e ≡ Some m
-unfolding as_generated as_term
-generated_term (constant n) m h = absurd (cc)
-generated_term (letter x) m h = h
-generated_term (grouped e) m h = h
-generated_term (power e n) m h = h
-generated_term (inverse_power e n) m h = h
-generated_term (algebra.product d e) m h = h
-generated_term (algebra.opposite e) m h = h
-generated_term (algebra.sum d e) m h = h
-generated_term (algebra.difference d e) m h = h
+none_inverting : (stack : List Frame) (frame : Frame) (e : Expression) → expression_read (reading stack frame (inverting e)) ≡ None
+unfolding expression_read
+none_inverting [] frame e = refl
+none_inverting (outer ∷ stack) frame e = refl
 
-term_whole : (e : Expression) (m : ModuleExpression) → as_term e ≡ Some m → as_whole e ≡ Some m
-unfolding as_generated as_term as_whole
-term_whole (constant n) m h = h
-term_whole (letter x) m h = h
-term_whole (grouped e) m h = h
-term_whole (power e n) m h = h
-term_whole (inverse_power e n) m h = h
-term_whole (algebra.product d e) m h = h
-term_whole (algebra.opposite e) m h = absurd (cc)
-term_whole (algebra.sum d e) m h = absurd (cc)
-term_whole (algebra.difference d e) m h = absurd (cc)
+none_within : (outer : Frame) (stack : List Frame) (frame : Frame) (state : Reading) → expression_read (reading (outer ∷ stack) frame state) ≡ None
+unfolding expression_read
+none_within outer stack frame state = refl
 
--- tokens of the module are tokens of the algebra, and read back
+-- tokens that are passed on, and then more
+both_pass : (r : Reader) (front back : List Token) {stack : List Frame} {frame : Frame} {state : Reading} → read_all r front ≡ reading stack frame state
+    → PassesOn r front → PassesOn (reading stack frame state) back → PassesOn r (front ++ back)
+unfolding in_factor
+both_pass r front back {stack} {frame} {state} is h k joins m =
+    module_read_all-append (module_reading joins (multiplying m r)) front back
+    ∙ ap (λ s. module_read_all s back) (h joins m ∙ ap (in_factor joins m) is)
+    ∙ k joins m
+    ∙ ap (λ s. in_factor joins m (read_all s back)) (sym is)
+    ∙ ap (in_factor joins m) (sym (read_all-append r front back))
 
-abbrev pub rank_of : ModuleRank → Rank
-rank_of generated = algebra.term
-rank_of modules.term = algebra.term
-rank_of modules.whole = algebra.whole
+abbrev PassesAt : Rank → List Token → Type 0
+PassesAt atom tokens = (stack : List Frame) (frame : Frame) (first : Bool) → PassesOn (reading stack frame (wanted first)) tokens
+PassesAt factor tokens = (stack : List Frame) (frame : Frame) (first : Bool) → PassesOn (reading stack frame (wanted first)) tokens
+PassesAt algebra.term tokens = (outer : Frame) (stack : List Frame) (join : Expression → Expression) (first : Bool) → PassesOn (reading (outer ∷ stack) (joining join) (wanted first)) tokens
+PassesAt algebra.whole tokens = (outer : Frame) (stack : List Frame) → PassesOn (reading (outer ∷ stack) blank (wanted true)) tokens
 
-abbrev read_as : ModuleRank → Expression → Option ModuleExpression
-read_as generated e = as_generated e
-read_as modules.term e = as_term e
-read_as modules.whole e = as_whole e
+passes_grouped : (tokens : List Token) (e : Expression) → ReadsWhole tokens e → PassesAt algebra.whole tokens → PassesAt atom ((open_sign ∷ tokens) ++ close_sign ∷ [])
+unfolding read_all read at_wanted
+passes_grouped tokens e h k stack frame first =
+    both_pass (reading stack frame (wanted first)) (open_sign ∷ tokens) (close_sign ∷ []) (h.reads (frame ∷ stack))
+    (both_pass (reading stack frame (wanted first)) (open_sign ∷ []) tokens refl (at_unfinished _ (none_wanted stack frame first) open_sign) (k frame stack))
+    (at_close (reading (frame ∷ stack) h.frame (stands h.raisable h.last)))
 
-pub as_algebra : {rank : ModuleRank} {tokens : List Token} {m : ModuleExpression} → ModuleSpell rank tokens m → Spell (rank_of rank) tokens (in_algebra m)
-unfolding in_algebra
-as_algebra (a_generator x) = algebra.a_term (a_factor (a_name x))
-as_algebra (scaled digits x) = algebra.multiplied (algebra.a_term (a_factor (a_number digits))) (a_factor (a_name x)) refl
-as_algebra (modules.multiplied h k are) = algebra.multiplied (as_algebra h) k are
-as_algebra (a_zero digits zero) = algebra.a_term (a_factor (subst (λ n. Spell algebra.atom (number digits ∷ []) (constant n)) zero (a_number digits)))
-as_algebra (modules.a_term h) = as_algebra h
-as_algebra (modules.first_term h) = algebra.first_term (as_algebra h)
-as_algebra (modules.with_plus h) = algebra.with_plus (as_algebra h)
-as_algebra (modules.with_minus h) = algebra.with_minus (as_algebra h)
-as_algebra (modules.added h k are) = algebra.added (as_algebra h) (as_algebra k) are
-as_algebra (modules.subtracted h k are) = algebra.subtracted (as_algebra h) (as_algebra k) are
+passes_raised : (tokens : List Token) (e : Expression) (digits : List ℕ) → ReadsAtom tokens e → PassesAt atom tokens → PassesAt factor (tokens ++ power_sign ∷ number digits ∷ [])
+unfolding read_all read at_standing
+passes_raised tokens e digits h k stack frame first =
+    both_pass (reading stack frame (wanted first)) tokens (power_sign ∷ number digits ∷ []) (h stack frame first) (k stack frame first)
+    (both_pass (reading stack frame (stands true e)) (power_sign ∷ []) (number digits ∷ []) refl (at_power (reading stack frame (stands true e)))
+    (at_unfinished _ (none_raising stack frame e) (number digits)))
 
-reads_back : {rank : ModuleRank} {tokens : List Token} {m : ModuleExpression} → ModuleSpell rank tokens m → read_as rank (in_algebra m) ≡ Some m
-unfolding in_algebra as_generated as_term as_whole
-reads_back (a_generator x) = refl
-reads_back (scaled digits x) = refl
-reads_back (modules.multiplied {d} {e} h k are) = ap (as_product (in_algebra d) e) (reads_back h)
-reads_back (a_zero digits zero) = refl
-reads_back (modules.a_term {e} h) = generated_term (in_algebra e) e (reads_back h)
-reads_back (modules.first_term {e} h) = term_whole (in_algebra e) e (reads_back h)
-reads_back (modules.with_plus {e} h) = term_whole (in_algebra e) e (reads_back h)
-reads_back (modules.with_minus {e} h) = ap as_opposite (reads_back h)
-reads_back (modules.added h k are) = (λ i. joined modules.sum (reads_back h i) (reads_back k i))
-reads_back (modules.subtracted h k are) = (λ i. joined modules.difference (reads_back h i) (reads_back k i))
+passes_inverted : (tokens : List Token) (e : Expression) (digits : List ℕ) → ReadsAtom tokens e → PassesAt atom tokens
+    → PassesAt factor (tokens ++ power_sign ∷ minus_sign ∷ number digits ∷ [])
+unfolding read_all read at_standing at_raising
+passes_inverted tokens e digits h k stack frame first =
+    both_pass (reading stack frame (wanted first)) tokens (power_sign ∷ minus_sign ∷ number digits ∷ []) (h stack frame first) (k stack frame first)
+    (both_pass (reading stack frame (stands true e)) (power_sign ∷ []) (minus_sign ∷ number digits ∷ []) refl (at_power (reading stack frame (stands true e)))
+    (both_pass (reading stack frame (raising e)) (minus_sign ∷ []) (number digits ∷ []) refl (at_unfinished _ (none_raising stack frame e) minus_sign)
+    (at_unfinished _ (none_inverting stack frame e) (number digits))))
 
+passes_product : (front back : List Token) (d : Expression) → ReadsTerm front d → PassesAt algebra.term front → PassesAt factor back → PassesAt algebra.term (front ++ times_sign ∷ back)
+unfolding read_all read at_standing
+passes_product front back d h k l outer stack join first =
+    let frame : Frame = record { joins = join; times = h.times } in
+    both_pass (reading (outer ∷ stack) (joining join) (wanted first)) front (times_sign ∷ back) (h.reads (outer ∷ stack) join first) (k outer stack join first)
+    (both_pass (reading (outer ∷ stack) frame (stands h.raisable h.last)) (times_sign ∷ []) back refl
+    (at_unfinished _ (none_within outer stack frame (stands h.raisable h.last)) times_sign)
+    (l (outer ∷ stack) (record { joins = join; times = λ f. algebra.product (h.times h.last) f }) false))
+
+passes_sum : (front back : List Token) (d : Expression) → ReadsWhole front d → PassesAt algebra.whole front → PassesAt algebra.term back → PassesAt algebra.whole (front ++ plus_sign ∷ back)
+unfolding read_all read at_standing
+passes_sum front back d h k l outer stack =
+    both_pass (reading (outer ∷ stack) blank (wanted true)) front (plus_sign ∷ back) (h.reads (outer ∷ stack)) (k outer stack)
+    (both_pass (reading (outer ∷ stack) h.frame (stands h.raisable h.last)) (plus_sign ∷ []) back refl
+    (at_unfinished _ (none_within outer stack h.frame (stands h.raisable h.last)) plus_sign)
+    (l outer stack (λ f. algebra.sum (closed h.frame h.last) f) false))
+
+passes_difference : (front back : List Token) (d : Expression) → ReadsWhole front d → PassesAt algebra.whole front → PassesAt algebra.term back
+    → PassesAt algebra.whole (front ++ minus_sign ∷ back)
+unfolding read_all read at_standing
+passes_difference front back d h k l outer stack =
+    both_pass (reading (outer ∷ stack) blank (wanted true)) front (minus_sign ∷ back) (h.reads (outer ∷ stack)) (k outer stack)
+    (both_pass (reading (outer ∷ stack) h.frame (stands h.raisable h.last)) (minus_sign ∷ []) back refl
+    (at_unfinished _ (none_within outer stack h.frame (stands h.raisable h.last)) minus_sign)
+    (l outer stack (λ f. algebra.difference (closed h.frame h.last) f) false))
+
+passes_plus : (tokens : List Token) → PassesAt algebra.term tokens → PassesAt algebra.whole (plus_sign ∷ tokens)
+unfolding read_all read at_wanted
+passes_plus tokens k outer stack =
+    both_pass (reading (outer ∷ stack) blank (wanted true)) (plus_sign ∷ []) tokens refl (at_unfinished _ (none_within outer stack blank (wanted true)) plus_sign) (k outer stack (λ f. f) false)
+
+passes_minus : (tokens : List Token) → PassesAt algebra.term tokens → PassesAt algebra.whole (minus_sign ∷ tokens)
+unfolding read_all read at_wanted
+passes_minus tokens k outer stack =
+    both_pass (reading (outer ∷ stack) blank (wanted true)) (minus_sign ∷ []) tokens refl (at_unfinished _ (none_within outer stack blank (wanted true)) minus_sign)
+    (k outer stack algebra.opposite false)
+
+passes : {rank : Rank} {tokens : List Token} {e : Expression} → Spell rank tokens e → PassesAt rank tokens
+passes (a_number digits) = λ stack frame first. at_unfinished _ (none_wanted stack frame first) (number digits)
+passes (a_name x) = λ stack frame first. at_unfinished _ (none_wanted stack frame first) (name x)
+passes (in_parentheses {tokens} {e} h are) = subst (λ ts. PassesAt atom ts) (sym are) (passes_grouped tokens e (reads h) (passes h))
+passes (a_factor h) = passes h
+passes (raised {tokens} {e} digits h are) = subst (λ ts. PassesAt factor ts) (sym are) (passes_raised tokens e digits (reads h) (passes h))
+passes (raised_inverse {tokens} {e} digits h are) = subst (λ ts. PassesAt factor ts) (sym are) (passes_inverted tokens e digits (reads h) (passes h))
+passes (algebra.a_term h) = λ outer stack join first. passes h (outer ∷ stack) (joining join) first
+passes (algebra.multiplied {front} {back} {d} h k are) = subst (λ ts. PassesAt algebra.term ts) (sym are) (passes_product front back d (reads h) (passes h) (passes k))
+passes (algebra.first_term h) = λ outer stack. passes h outer stack (λ f. f) true
+passes (algebra.with_plus {tokens} h) = passes_plus tokens (passes h)
+passes (algebra.with_minus {tokens} h) = passes_minus tokens (passes h)
+passes (algebra.added {front} {back} {d} h k are) = subst (λ ts. PassesAt algebra.whole ts) (sym are) (passes_sum front back d (reads h) (passes h) (passes k))
+passes (algebra.subtracted {front} {back} {d} h k are) = subst (λ ts. PassesAt algebra.whole ts) (sym are) (passes_difference front back d (reads h) (passes h) (passes k))
+
+-- a factor, whole
+factor_reads : {tokens : List Token} {e : Expression} → Spell factor tokens e → (joins : ModuleExpression → ModuleExpression) (m : ModuleExpression) (h : ReadsFactor tokens e)
+    → module_read_all (module_reading joins (multiplying m factor_start)) tokens ≡ module_reading joins (multiplying m (reading [] blank (stands h.raisable e)))
+unfolding in_factor
+factor_reads k joins m h = passes k [] blank false joins m ∙ ap (in_factor joins m) (h.reads [] blank false)
+
+-- what tokens of a rank leave of a reader, by what may follow
+
+abbrev before : (ModuleExpression → ModuleExpression) → Bool → ModuleReader
+before joins first = module_reading joins (term_wanted first)
+
+record TermReads (tokens : List Token) (m : ModuleExpression) : Type 0 where
+  adds : (joins : ModuleExpression → ModuleExpression) (first : Bool) → module_read (module_read_all (before joins first) tokens) plus_sign ≡ before (λ n. modules.sum (joins m) n) false
+  subtracts : (joins : ModuleExpression → ModuleExpression) (first : Bool) → module_read (module_read_all (before joins first) tokens) minus_sign ≡ before (λ n. modules.difference (joins m) n) false
+  ends : (joins : ModuleExpression → ModuleExpression) (first : Bool) → module_expression_read (module_read_all (before joins first) tokens) ≡ Some (joins m)
+
+record GeneratedReads (tokens : List Token) (m : ModuleExpression) : Type 0 where
+  term : TermReads tokens m
+  multiplies : (joins : ModuleExpression → ModuleExpression) (first : Bool)
+      → module_read (module_read_all (before joins first) tokens) times_sign ≡ module_reading joins (multiplying m factor_start)
+
+record WholeReads (tokens : List Token) (m : ModuleExpression) : Type 0 where
+  adds : module_read (module_read_all module_start tokens) plus_sign ≡ before (λ n. modules.sum m n) false
+  subtracts : module_read (module_read_all module_start tokens) minus_sign ≡ before (λ n. modules.difference m n) false
+  ends : module_expression_read (module_read_all module_start tokens) ≡ Some m
+
+abbrev ModuleReads : ModuleRank → List Token → ModuleExpression → Type 0
+ModuleReads generated tokens m = GeneratedReads tokens m
+ModuleReads modules.term tokens m = TermReads tokens m
+ModuleReads modules.whole tokens m = WholeReads tokens m
+
+generator_reads : (x : List ℕ) → GeneratedReads (name x ∷ []) (generator None x)
+unfolding module_read_all module_read behind_term module_expression_read
+generator_reads x = record { term = record { adds = λ joins first. refl; subtracts = λ joins first. refl; ends = λ joins first. refl }; multiplies = λ joins first. refl }
+
+scaled_reads : (digits x : List ℕ) → GeneratedReads (number digits ∷ times_sign ∷ name x ∷ []) (generator (Some (number_value digits)) x)
+unfolding module_read_all module_read behind_term behind_number module_expression_read
+scaled_reads digits x = record { term = record { adds = λ joins first. refl; subtracts = λ joins first. refl; ends = λ joins first. refl }; multiplies = λ joins first. refl }
+
+zero_reads : (digits : List ℕ) → number_value digits ≡ 0 → TermReads (number digits ∷ []) nothing
+unfolding module_read_all module_read behind_term behind_number module_expression_read
+zero_reads digits zero = record {
+  adds = λ joins first. ap (λ n. cond (nat_eq n 0) (before (λ n. modules.sum (joins nothing) n) false) module_stuck) zero;
+  subtracts = λ joins first. ap (λ n. cond (nat_eq n 0) (before (λ n. modules.difference (joins nothing) n) false) module_stuck) zero;
+  ends = λ joins first. ap (λ n. cond (nat_eq n 0) (Some (joins nothing)) None) zero;
+}
+
+module _ {front back : List Token} {m : ModuleExpression} {e : Expression} (h : GeneratedReads front m) (k : Spell factor back e) where
+  product_read : (r : ReadsFactor back e) (joins : ModuleExpression → ModuleExpression) (first : Bool)
+      → module_read_all (before joins first) (front ++ times_sign ∷ back) ≡ module_reading joins (multiplying m (reading [] blank (stands r.raisable e)))
+  unfolding module_read_all
+  product_read r joins first =
+      module_read_all-append (before joins first) front (times_sign ∷ back) ∙ ap (λ s. module_read_all s back) (h.multiplies joins first) ∙ factor_reads k joins m r
+
+  product_reads : GeneratedReads (front ++ times_sign ∷ back) (modules.product m e)
+  unfolding module_read behind_factor behind_term module_expression_read expression_read
+  product_reads = let r : ReadsFactor back e = reads k in record {
+    term = record {
+      adds = λ joins first. ap (λ s. module_read s plus_sign) (product_read r joins first);
+      subtracts = λ joins first. ap (λ s. module_read s minus_sign) (product_read r joins first);
+      ends = λ joins first. ap module_expression_read (product_read r joins first);
+    };
+    multiplies = λ joins first. ap (λ s. module_read s times_sign) (product_read r joins first);
+  }
+
+first_reads : {tokens : List Token} {m : ModuleExpression} → TermReads tokens m → WholeReads tokens m
+first_reads h = record { adds = h.adds (λ m. m) true; subtracts = h.subtracts (λ m. m) true; ends = h.ends (λ m. m) true }
+
+plus_reads : {tokens : List Token} {m : ModuleExpression} → TermReads tokens m → WholeReads (plus_sign ∷ tokens) m
+unfolding module_read_all module_read before_term
+plus_reads h = record { adds = h.adds (λ m. m) false; subtracts = h.subtracts (λ m. m) false; ends = h.ends (λ m. m) false }
+
+minus_reads : {tokens : List Token} {m : ModuleExpression} → TermReads tokens m → WholeReads (minus_sign ∷ tokens) (modules.opposite m)
+unfolding module_read_all module_read before_term
+minus_reads h = record { adds = h.adds modules.opposite false; subtracts = h.subtracts modules.opposite false; ends = h.ends modules.opposite false }
+
+-- a term that is joined to what was read before
+module _ (front : List Token) (t : Token) {back : List Token} {m : ModuleExpression} (joins : ModuleExpression → ModuleExpression)
+    (h : module_read (module_read_all module_start front) t ≡ before joins false) (k : TermReads back m) where
+  joined_read : module_read_all module_start (front ++ t ∷ back) ≡ module_read_all (before joins false) back
+  unfolding module_read_all
+  joined_read = module_read_all-append module_start front (t ∷ back) ∙ ap (λ s. module_read_all s back) h
+
+  joined_reads : WholeReads (front ++ t ∷ back) (joins m)
+  joined_reads = record {
+    adds = ap (λ s. module_read s plus_sign) joined_read ∙ k.adds joins false;
+    subtracts = ap (λ s. module_read s minus_sign) joined_read ∙ k.subtracts joins false;
+    ends = ap module_expression_read joined_read ∙ k.ends joins false;
+  }
+
+module_reads : {rank : ModuleRank} {tokens : List Token} {m : ModuleExpression} → ModuleSpell rank tokens m → ModuleReads rank tokens m
+module_reads (a_generator x) = generator_reads x
+module_reads (scaled digits x) = scaled_reads digits x
+module_reads (modules.multiplied {d} {e} h k are) = subst (λ ts. GeneratedReads ts (modules.product d e)) (sym are) (product_reads (module_reads h) k)
+module_reads (a_zero digits zero) = zero_reads digits zero
+module_reads (modules.a_term {tokens} {e} h) = let k : GeneratedReads tokens e = module_reads h in k.term
+module_reads (modules.first_term h) = first_reads (module_reads h)
+module_reads (modules.with_plus h) = plus_reads (module_reads h)
+module_reads (modules.with_minus h) = minus_reads (module_reads h)
+module_reads (modules.added {front} {back} {d} {e} h k are) =
+    let l : WholeReads front d = module_reads h in
+    subst (λ ts. WholeReads ts (modules.sum d e)) (sym are) (joined_reads front plus_sign (λ n. modules.sum d n) l.adds (module_reads k))
+module_reads (modules.subtracted {front} {back} {d} {e} h k are) =
+    let l : WholeReads front d = module_reads h in
+    subst (λ ts. WholeReads ts (modules.difference d e)) (sym are) (joined_reads front minus_sign (λ n. modules.difference d n) l.subtracts (module_reads k))
+
+-- tokens of an expression of the module are parsed to it
 pub module_parsed-spelled : {tokens : List Token} {m : ModuleExpression} → ModuleSpell modules.whole tokens m → module_parsed tokens ≡ Some m
 unfolding module_parsed
-module_parsed-spelled {m} h = ap read_module (parsed-spelled (as_algebra h)) ∙ reads_back h
-
--- what reads back is spelled
-
-record IsNumeral (tokens : List Token) (n : ℕ) : Type 0 where
-  digits : List ℕ
-  are : number digits ∷ [] ≡ tokens
-  value : number_value digits ≡ n
-
-abbrev NumeralOf : List Token → Expression → Type 0
-NumeralOf tokens e = (n : ℕ) → number_of e ≡ Some n → IsNumeral tokens n
-
-numeral : {rank : Rank} {tokens : List Token} {e : Expression} → Spell rank tokens e → rank ≢ algebra.whole → NumeralOf tokens e
-numeral (a_number digits) low n h = record { digits = digits; are = refl; value = cc }
-numeral (a_name x) low n h = absurd (cc)
-numeral (in_parentheses k are) low n h = absurd (cc)
-numeral (a_factor k) low n h = numeral k (λ e. absurd (cc)) n h
-numeral (raised digits k are) low n h = absurd (cc)
-numeral (raised_inverse digits k are) low n h = absurd (cc)
-numeral (algebra.a_term k) low n h = numeral k (λ e. absurd (cc)) n h
-numeral (algebra.multiplied k l are) low n h = absurd (cc)
-numeral (algebra.first_term k) low n h = absurd (low refl)
-numeral (algebra.with_plus k) low n h = absurd (low refl)
-numeral (algebra.with_minus k) low n h = absurd (low refl)
-numeral (algebra.added k l are) low n h = absurd (low refl)
-numeral (algebra.subtracted k l are) low n h = absurd (low refl)
-
-a_named : {rank : Rank} {tokens : List Token} {e : Expression} → Spell rank tokens e → rank ≢ algebra.whole → (x : List ℕ) → name_of e ≡ Some x → name x ∷ [] ≡ tokens
-a_named (a_number digits) low x h = absurd (cc)
-a_named (a_name y) low x h = (cc)
-a_named (in_parentheses k are) low x h = absurd (cc)
-a_named (a_factor k) low x h = a_named k (λ e. absurd (cc)) x h
-a_named (raised digits k are) low x h = absurd (cc)
-a_named (raised_inverse digits k are) low x h = absurd (cc)
-a_named (algebra.a_term k) low x h = a_named k (λ e. absurd (cc)) x h
-a_named (algebra.multiplied k l are) low x h = absurd (cc)
-a_named (algebra.first_term k) low x h = absurd (low refl)
-a_named (algebra.with_plus k) low x h = absurd (low refl)
-a_named (algebra.with_minus k) low x h = absurd (low refl)
-a_named (algebra.added k l are) low x h = absurd (low refl)
-a_named (algebra.subtracted k l are) low x h = absurd (low refl)
-
-Generated : List Token → Option ModuleExpression → Type 0
-Generated tokens o = (m : ModuleExpression) → o ≡ Some m → ModuleSpell generated tokens m
-
--- a generator behind its number
-scaled_spelled : {front back all : List Token} (d e : Expression) → NumeralOf front d → ((x : List ℕ) → name_of e ≡ Some x → name x ∷ [] ≡ back) → all ≡ front ++ times_sign ∷ back
-    → (n : Option ℕ) (x : Option (List ℕ)) → number_of d ≡ n → name_of e ≡ x → Generated all (scaled_generator n x)
-unfolding Generated
-scaled_spelled d e numbered named are None x hn hx m h = absurd (cc)
-scaled_spelled d e numbered named are (Some n) None hn hx m h = absurd (cc)
-scaled_spelled {front} {back} {all} d e numbered named are (Some n) (Some x) hn hx m h =
-    let k : IsNumeral front n = numbered n hn in
-    let tokens : number k.digits ∷ times_sign ∷ name x ∷ [] ≡ all = (λ i. k.are i ++ times_sign ∷ named x hx i) ∙ sym are in
-    let is : generator (Some (number_value k.digits)) x ≡ m = ap (λ v. generator (Some v) x) k.value ∙ cc in
-    subst (λ q. ModuleSpell generated all q) is (subst (λ ts. ModuleSpell generated ts (generator (Some (number_value k.digits)) x)) tokens (scaled k.digits x))
-
-product_spelled : {front back all : List Token} {d e : Expression} → Spell algebra.term front d → Spell algebra.factor back e → all ≡ front ++ times_sign ∷ back
-    → Generated front (as_generated d) → (o : Option ModuleExpression) → as_generated d ≡ o → Generated all (as_product d e o)
-unfolding Generated
-product_spelled {all} {d} {e} k l are left (Some q) is m h =
-    let same : modules.product q e ≡ m = (cc) in subst (λ q. ModuleSpell generated all q) same (modules.multiplied (left q is) l are)
-product_spelled {d} {e} k l are left None is m h =
-    scaled_spelled d e (numeral k (λ r. absurd (cc))) (a_named l (λ r. absurd (cc))) are (number_of d) (name_of e) refl refl m h
-
-generated_spelled : {rank : Rank} {tokens : List Token} {e : Expression} → Spell rank tokens e → rank ≢ algebra.whole → Generated tokens (as_generated e)
-unfolding Generated as_generated
-generated_spelled (a_number digits) low m h = absurd (cc)
-generated_spelled (a_name x) low m h = let same : generator None x ≡ m = (cc) in subst (λ q. ModuleSpell generated (name x ∷ []) q) same (a_generator x)
-generated_spelled (in_parentheses k are) low m h = absurd (cc)
-generated_spelled (a_factor k) low m h = generated_spelled k (λ r. absurd (cc)) m h
-generated_spelled (raised digits k are) low m h = absurd (cc)
-generated_spelled (raised_inverse digits k are) low m h = absurd (cc)
-generated_spelled (algebra.a_term k) low m h = generated_spelled k (λ r. absurd (cc)) m h
-generated_spelled (algebra.multiplied {d} {e} k l are) low m h = product_spelled k l are (generated_spelled k (λ r. absurd (cc))) (as_generated d) refl m h
-generated_spelled (algebra.first_term k) low m h = absurd (low refl)
-generated_spelled (algebra.with_plus k) low m h = absurd (low refl)
-generated_spelled (algebra.with_minus k) low m h = absurd (low refl)
-generated_spelled (algebra.added k l are) low m h = absurd (low refl)
-generated_spelled (algebra.subtracted k l are) low m h = absurd (low refl)
-
-module _ {tokens : List Token} {m : ModuleExpression} where
-  zero_spelled : (n : ℕ) (test : Bool) → nat_eq n 0 ≡ test → Spell algebra.term tokens (constant n) → cond test (Some nothing) None ≡ Some m → ModuleSpell modules.term tokens m
-  zero_spelled n true is k h =
-      let numbered : IsNumeral tokens n = numeral k (λ r. absurd (cc)) n refl in
-      let same : nothing ≡ m = (cc) in
-      subst (λ q. ModuleSpell modules.term tokens q) same
-      (subst (λ ts. ModuleSpell modules.term ts nothing) numbered.are (a_zero numbered.digits (numbered.value ∙ eqb-true n 0 is)))
-  zero_spelled n false is k h = absurd (cc)
-
-  term_spelled : (e : Expression) → Spell algebra.term tokens e → as_term e ≡ Some m → ModuleSpell modules.term tokens m
-  unfolding as_term Generated
-  term_spelled (constant n) k h = zero_spelled n (nat_eq n 0) refl k h
-  term_spelled (letter x) k h = modules.a_term (generated_spelled k (λ r. absurd (cc)) m h)
-  term_spelled (grouped e) k h = modules.a_term (generated_spelled k (λ r. absurd (cc)) m h)
-  term_spelled (power e n) k h = modules.a_term (generated_spelled k (λ r. absurd (cc)) m h)
-  term_spelled (inverse_power e n) k h = modules.a_term (generated_spelled k (λ r. absurd (cc)) m h)
-  term_spelled (algebra.product d e) k h = modules.a_term (generated_spelled k (λ r. absurd (cc)) m h)
-  term_spelled (algebra.opposite e) k h = modules.a_term (generated_spelled k (λ r. absurd (cc)) m h)
-  term_spelled (algebra.sum d e) k h = modules.a_term (generated_spelled k (λ r. absurd (cc)) m h)
-  term_spelled (algebra.difference d e) k h = modules.a_term (generated_spelled k (λ r. absurd (cc)) m h)
-
--- sums, differences and opposites aren't terms
-abbrev is_term : Expression → Bool
-is_term (algebra.opposite e) = false
-is_term (algebra.sum d e) = false
-is_term (algebra.difference d e) = false
-is_term _ = true
-
-spelled_term : {rank : Rank} {tokens : List Token} {e : Expression} → Spell rank tokens e → rank ≢ algebra.whole → is_term e ≡ true
-spelled_term (a_number digits) low = refl
-spelled_term (a_name x) low = refl
-spelled_term (in_parentheses k are) low = refl
-spelled_term (a_factor k) low = spelled_term k (λ r. absurd (cc))
-spelled_term (raised digits k are) low = refl
-spelled_term (raised_inverse digits k are) low = refl
-spelled_term (algebra.a_term k) low = spelled_term k (λ r. absurd (cc))
-spelled_term (algebra.multiplied k l are) low = refl
-spelled_term (algebra.first_term k) low = absurd (low refl)
-spelled_term (algebra.with_plus k) low = absurd (low refl)
-spelled_term (algebra.with_minus k) low = absurd (low refl)
-spelled_term (algebra.added k l are) low = absurd (low refl)
-spelled_term (algebra.subtracted k l are) low = absurd (low refl)
-
-term_is_whole : (e : Expression) → is_term e ≡ true → as_term e ≡ as_whole e
-unfolding as_whole
-term_is_whole (constant n) h = refl
-term_is_whole (letter x) h = refl
-term_is_whole (grouped e) h = refl
-term_is_whole (power e n) h = refl
-term_is_whole (inverse_power e n) h = refl
-term_is_whole (algebra.product d e) h = refl
-term_is_whole (algebra.opposite e) h = absurd (cc)
-term_is_whole (algebra.sum d e) h = absurd (cc)
-term_is_whole (algebra.difference d e) h = absurd (cc)
-
-reads_term : {tokens : List Token} {e : Expression} {m : ModuleExpression} → Spell algebra.term tokens e → as_whole e ≡ Some m → ModuleSpell modules.term tokens m
-reads_term {e} k h = term_spelled e k (term_is_whole e (spelled_term k (λ r. absurd (cc))) ∙ h)
-
-abbrev Whole : List Token → Option ModuleExpression → Type 0
-Whole tokens o = (m : ModuleExpression) → o ≡ Some m → ModuleSpell modules.whole tokens m
-
-opposite_spelled : {tokens : List Token} (o : Option ModuleExpression) → ((m : ModuleExpression) → o ≡ Some m → ModuleSpell modules.term tokens m) → Whole (minus_sign ∷ tokens) (as_opposite o)
-opposite_spelled None k m h = absurd (cc)
-opposite_spelled {tokens} (Some q) k m h = let same : modules.opposite q ≡ m = (cc) in subst (λ q. ModuleSpell modules.whole (minus_sign ∷ tokens) q) same (modules.with_minus (k q refl))
-
-module _ (join : ModuleExpression → ModuleExpression → ModuleExpression) {front back all : List Token}
-    (spell : (d e : ModuleExpression) → ModuleSpell modules.whole front d → ModuleSpell modules.term back e → ModuleSpell modules.whole all (join d e)) where
-  joined_spelled : (o q : Option ModuleExpression) → Whole front o → ((m : ModuleExpression) → q ≡ Some m → ModuleSpell modules.term back m) → Whole all (joined join o q)
-  joined_spelled None q k l m h = absurd (cc)
-  joined_spelled (Some d) None k l m h = absurd (cc)
-  joined_spelled (Some d) (Some e) k l m h = let same : join d e ≡ m = (cc) in subst (λ q. ModuleSpell modules.whole all q) same (spell d e (k d refl) (l e refl))
-
-whole_spelled : {rank : Rank} {tokens : List Token} {e : Expression} → Spell rank tokens e → rank ≡ algebra.whole → Whole tokens (as_whole e)
-unfolding as_whole
-whole_spelled (a_number digits) is m h = absurd (cc)
-whole_spelled (a_name x) is m h = absurd (cc)
-whole_spelled (in_parentheses k are) is m h = absurd (cc)
-whole_spelled (a_factor k) is m h = absurd (cc)
-whole_spelled (raised digits k are) is m h = absurd (cc)
-whole_spelled (raised_inverse digits k are) is m h = absurd (cc)
-whole_spelled (algebra.a_term k) is m h = absurd (cc)
-whole_spelled (algebra.multiplied k l are) is m h = absurd (cc)
-whole_spelled (algebra.first_term k) is m h = modules.first_term (reads_term k h)
-whole_spelled (algebra.with_plus k) is m h = modules.with_plus (reads_term k h)
-whole_spelled (algebra.with_minus {e} k) is m h = opposite_spelled (as_term e) (λ m h. term_spelled e k h) m h
-whole_spelled (algebra.added {d} {e} k l are) is m h =
-    joined_spelled modules.sum (λ d e k l. modules.added k l are) (as_whole d) (as_term e) (whole_spelled k refl) (λ m h. term_spelled e l h) m h
-whole_spelled (algebra.subtracted {d} {e} k l are) is m h =
-    joined_spelled modules.difference (λ d e k l. modules.subtracted k l are) (as_whole d) (as_term e) (whole_spelled k refl) (λ m h. term_spelled e l h) m h
-
-pub spelled-module_parsed : (tokens : List Token) (m : ModuleExpression) → module_parsed tokens ≡ Some m → ModuleSpell modules.whole tokens m
-unfolding module_parsed
-spelled-module_parsed tokens m h = by_expression (parsed tokens) refl h
-  where
-    by_expression : (o : Option Expression) → parsed tokens ≡ o → read_module o ≡ Some m → ModuleSpell modules.whole tokens m
-    by_expression None is h = absurd (cc)
-    by_expression (Some e) is h = whole_spelled (spelled-parsed tokens e is) refl m h
+module_parsed-spelled {tokens} {m} h = let k : WholeReads tokens m = module_reads h in k.ends

@@ -4,55 +4,55 @@ use Rattle.std.specs.Prelude.{nat_eq}
 use Rattle.std.proofs.lemmas.Bool.{eqb-true}
 use Rattle.ve_formats.specs.Tokens.{Token, name, number, symbol, number_value}
 use Rattle.ve_formats.specs.Expressions.{Expression, constant, letter, power, inverse_power, product, opposite, sum, difference, Rank, atom, factor, term, whole, Spell, a_number, a_name, in_parentheses, a_factor, raised, raised_inverse, a_term, multiplied, first_term, with_plus, with_minus, added, subtracted, open_sign, close_sign, plus_sign, minus_sign, times_sign, power_sign}
-use Rattle.ve_formats.proofs.Parsing.{Frame, Reading, wanted, stands, raising, inverting, Reader, stuck, reading, joining, blank, closed, close, Sign, plus, minus, times, raise, open_, close_, other, sign_byte, first_sign, signs, at_wanted, at_standing, at_raising, read, read_all, expression_read, parsed}
+use Rattle.ve_formats.specs.Reading.{Frame, Reading, wanted, stands, raising, inverting, Reader, stuck, reading, joining, blank, closed, close, Sign, plus, minus, times, raise, open_, close_, other, sign_byte, first_sign, signs, at_wanted, at_standing, at_raising, read, read_all, expression_read, parsed}
 
 -- the tokens that a frame stands for
-record IsFrame (frame : Frame) (tokens : List Token) : Type 0 where
-  sums : List Token
-  factors : List Token
-  are : sums ++ factors ≡ tokens
-  joins : (back : List Token) (e : Expression) → Spell term back e → Spell whole (sums ++ back) (frame.joins e)
-  times : (back : List Token) (e : Expression) → Spell factor back e → Spell term (factors ++ back) (frame.times e)
+pub record IsFrame (frame : Frame) (tokens : List Token) : Type 0 where
+  pub sums : List Token
+  pub factors : List Token
+  pub are : sums ++ factors ≡ tokens
+  pub joins : (back : List Token) (e : Expression) → Spell term back e → Spell whole (sums ++ back) (frame.joins e)
+  pub times : (back : List Token) (e : Expression) → Spell factor back e → Spell term (factors ++ back) (frame.times e)
 
 -- a frame, and an expression of a rank behind it
-record StandsBehind (frame : Frame) (rank : Rank) (e : Expression) (tokens : List Token) : Type 0 where
-  front : List Token
-  own : List Token
-  are : front ++ own ≡ tokens
-  framed : IsFrame frame front
-  spelled : Spell rank own e
+pub record StandsBehind (frame : Frame) (rank : Rank) (e : Expression) (tokens : List Token) : Type 0 where
+  pub front : List Token
+  pub own : List Token
+  pub are : front ++ own ≡ tokens
+  pub framed : IsFrame frame front
+  pub spelled : Spell rank own e
 
-abbrev standing_rank : Bool → Rank
+abbrev pub standing_rank : Bool → Rank
 standing_rank true = atom
 standing_rank false = factor
 
-record IsOpen (frame : Frame) (first : Bool) (tokens : List Token) : Type 0 where
-  framed : IsFrame frame tokens
-  none : first ≡ true → tokens ≡ []
+pub record IsOpen (frame : Frame) (first : Bool) (tokens : List Token) : Type 0 where
+  pub framed : IsFrame frame tokens
+  pub none : first ≡ true → tokens ≡ []
 
-record Behind (Q : List Token → Type 0) (last : List Token) (tokens : List Token) : Type 0 where
-  front : List Token
-  are : front ++ last ≡ tokens
-  holds : Q front
+pub record Behind (Q : List Token → Type 0) (last : List Token) (tokens : List Token) : Type 0 where
+  pub front : List Token
+  pub are : front ++ last ≡ tokens
+  pub holds : Q front
 
-abbrev IsReading : Frame → Reading → List Token → Type 0
+abbrev pub IsReading : Frame → Reading → List Token → Type 0
 IsReading frame (wanted first) tokens = IsOpen frame first tokens
 IsReading frame (stands raisable e) tokens = StandsBehind frame (standing_rank raisable) e tokens
 IsReading frame (raising e) tokens = Behind (StandsBehind frame atom e) (power_sign ∷ []) tokens
 IsReading frame (inverting e) tokens = Behind (StandsBehind frame atom e) (power_sign ∷ minus_sign ∷ []) tokens
 
-record Parts (P Q : List Token → Type 0) (tokens : List Token) : Type 0 where
-  front : List Token
-  back : List Token
-  are : front ++ back ≡ tokens
-  before : P front
-  behind : Q back
+pub record Parts (P Q : List Token → Type 0) (tokens : List Token) : Type 0 where
+  pub front : List Token
+  pub back : List Token
+  pub are : front ++ back ≡ tokens
+  pub before : P front
+  pub behind : Q back
 
-abbrev IsStack : List Frame → List Token → Type 0
+abbrev pub IsStack : List Frame → List Token → Type 0
 IsStack [] tokens = tokens ≡ []
 IsStack (frame ∷ stack) tokens = Parts (IsStack stack) (Behind (IsFrame frame) (open_sign ∷ [])) tokens
 
-abbrev IsReader : Reader → List Token → Type 0
+abbrev pub IsReader : Reader → List Token → Type 0
 IsReader stuck tokens = Unit {0}
 IsReader (reading stack frame state) tokens = Parts (IsStack stack) (IsReading frame state) tokens
 
@@ -66,7 +66,7 @@ blank_frame = joins_first (λ e. e) [] (λ back e h. first_term h)
 
 -- what stands behind a frame, whole
 
-as_factor : (raisable : Bool) {tokens : List Token} {e : Expression} → Spell (standing_rank raisable) tokens e → Spell factor tokens e
+pub as_factor : (raisable : Bool) {tokens : List Token} {e : Expression} → Spell (standing_rank raisable) tokens e → Spell factor tokens e
 as_factor true h = a_factor h
 as_factor false h = h
 
@@ -78,7 +78,7 @@ standing_parts : (raisable : Bool) {frame : Frame} {e : Expression} {tokens : Li
     → h.framed.sums ++ (h.framed.factors ++ h.own) ≡ tokens
 standing_parts raisable h = sym (append_assoc h.framed.sums h.framed.factors h.own) ∙ ap (λ ts. ts ++ h.own) h.framed.are ∙ h.are
 
-standing_whole : (raisable : Bool) {frame : Frame} {e : Expression} {tokens : List Token} → StandsBehind frame (standing_rank raisable) e tokens → Spell whole tokens (closed frame e)
+pub standing_whole : (raisable : Bool) {frame : Frame} {e : Expression} {tokens : List Token} → StandsBehind frame (standing_rank raisable) e tokens → Spell whole tokens (closed frame e)
 standing_whole raisable {frame} {e} h =
     subst (λ ts. Spell whole ts (closed frame e)) (standing_parts raisable h) (h.framed.joins (h.framed.factors ++ h.own) (frame.times e) (standing_term raisable h))
 
@@ -202,7 +202,7 @@ more stack frame next state later t step h = record {
 }
 
 -- what holds of each sign at its byte, and of other bytes, holds of each byte
-with_sign : (Q : Sign → ℕ → Type 0) → ((s : Sign) → Q s (sign_byte s)) → ((b : ℕ) → Q other b) → (b : ℕ) (among : List Sign) → Q (first_sign b among) b
+pub with_sign : (Q : Sign → ℕ → Type 0) → ((s : Sign) → Q s (sign_byte s)) → ((b : ℕ) → Q other b) → (b : ℕ) (among : List Sign) → Q (first_sign b among) b
 with_sign Q known unknown b [] = unknown b
 with_sign Q known unknown b (s ∷ among) = by_test (nat_eq b (sign_byte s)) refl (with_sign Q known unknown b among)
   where
@@ -210,7 +210,7 @@ with_sign Q known unknown b (s ∷ among) = by_test (nat_eq b (sign_byte s)) ref
     by_test true is later = subst (λ n. Q s n) (sym (eqb-true b (sign_byte s) is)) (known s)
     by_test false is later = later
 
-at_wanted-sound : (stack : List Frame) (frame : Frame) (first : Bool) (tokens : List Token) → IsReader (reading stack frame (wanted first)) tokens → (s : Sign)
+pub at_wanted-sound : (stack : List Frame) (frame : Frame) (first : Bool) (tokens : List Token) → IsReader (reading stack frame (wanted first)) tokens → (s : Sign)
     → IsReader (at_wanted s stack frame first) (tokens ++ symbol (sign_byte s) ∷ [])
 unfolding at_wanted
 at_wanted-sound stack frame first tokens h open_ = opened stack frame h
@@ -223,7 +223,7 @@ at_wanted-sound stack frame first tokens h raise = tt
 at_wanted-sound stack frame first tokens h close_ = tt
 at_wanted-sound stack frame first tokens h other = tt
 
-at_standing-sound : (stack : List Frame) (frame : Frame) (raisable : Bool) (e : Expression) (tokens : List Token) → IsReader (reading stack frame (stands raisable e)) tokens → (s : Sign)
+pub at_standing-sound : (stack : List Frame) (frame : Frame) (raisable : Bool) (e : Expression) (tokens : List Token) → IsReader (reading stack frame (stands raisable e)) tokens → (s : Sign)
     → IsReader (at_standing s stack frame e raisable) (tokens ++ symbol (sign_byte s) ∷ [])
 unfolding at_standing
 at_standing-sound stack frame true e tokens h raise = more stack frame frame (stands true e) (raising e) power_sign (λ own k. starts_raising k) h
@@ -238,7 +238,7 @@ at_standing-sound stack frame raisable e tokens h close_ = closes stack frame ra
 at_standing-sound stack frame raisable e tokens h open_ = tt
 at_standing-sound stack frame raisable e tokens h other = tt
 
-at_raising-sound : (stack : List Frame) (frame : Frame) (e : Expression) (tokens : List Token) → IsReader (reading stack frame (raising e)) tokens → (s : Sign)
+pub at_raising-sound : (stack : List Frame) (frame : Frame) (e : Expression) (tokens : List Token) → IsReader (reading stack frame (raising e)) tokens → (s : Sign)
     → IsReader (at_raising s stack frame e) (tokens ++ symbol (sign_byte s) ∷ [])
 unfolding at_raising
 at_raising-sound stack frame e tokens h minus = more stack frame frame (raising e) (inverting e) minus_sign (λ own k. starts_inverting k) h
@@ -249,7 +249,7 @@ at_raising-sound stack frame e tokens h open_ = tt
 at_raising-sound stack frame e tokens h close_ = tt
 at_raising-sound stack frame e tokens h other = tt
 
-read-sound : (r : Reader) (t : Token) (tokens : List Token) → IsReader r tokens → IsReader (read r t) (tokens ++ t ∷ [])
+pub read-sound : (r : Reader) (t : Token) (tokens : List Token) → IsReader r tokens → IsReader (read r t) (tokens ++ t ∷ [])
 unfolding read at_wanted at_standing at_raising
 read-sound stuck t tokens h = tt
 read-sound (reading stack frame (wanted first)) (name x) tokens h = more stack frame frame (wanted first) (stands true (letter x)) (name x) (λ own k. stands_name x k) h
@@ -289,9 +289,12 @@ whole_read (reading [] frame (raising f)) tokens e h is = absurd (cc)
 whole_read (reading [] frame (inverting f)) tokens e h is = absurd (cc)
 whole_read (reading (outer ∷ stack) frame state) tokens e h is = absurd (cc)
 
+-- before an expression
+pub starts : IsReader (reading [] blank (wanted true)) []
+starts = record { front = []; back = []; are = refl; before = refl; behind = record { framed = blank_frame; none = λ e. refl } }
+
 -- what is parsed is spelled
 pub spelled-parsed : (tokens : List Token) (e : Expression) → parsed tokens ≡ Some e → Spell whole tokens e
 unfolding parsed
 spelled-parsed tokens e is =
-    whole_read (read_all (reading [] blank (wanted true)) tokens) tokens e
-    (read_all-sound (reading [] blank (wanted true)) [] tokens (record { front = []; back = []; are = refl; before = refl; behind = record { framed = blank_frame; none = λ e. refl } })) is
+    whole_read (read_all (reading [] blank (wanted true)) tokens) tokens e (read_all-sound (reading [] blank (wanted true)) [] tokens starts) is

@@ -12,3 +12,6 @@ pub mod ModuleValues
 pub mod PresentationLines
 pub mod PresentationText
 pub mod CanonicalText
+pub mod Reading
+pub mod ModuleReading
+pub mod LineReading

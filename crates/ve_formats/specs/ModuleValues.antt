@@ -1,15 +1,23 @@
 -- What expressions of the module are worth in a presentation, and the first fault of those that have no value.
-use Rattle.std.specs.Prelude.{◌≡◌, ◌≢◌, ℕ, ◌+◌, ◌*◌, ◌-◌, ◌<◌, ◌≤◌, List, [], ◌∷◌, ◌++◌, length, Option, Some, None, Result, Ok, Err, decimal}
-use Rattle.ve_theory.specs.Combinations.{scaled, unit}
+use Rattle.std.specs.Prelude.{◌≡◌, ◌≢◌, ℕ, ◌+◌, ◌*◌, ◌-◌, ◌<◌, ◌≤◌, List, [], ◌∷◌, ◌++◌, length, Option, Some, None, Result, Ok, Err, All, decimal}
+use Rattle.ve_theory.specs.Combinations.{scaled, unit, IsReduced}
 use Rattle.ve_theory.specs.Words as words
+use Rattle.ve_theory.specs.Words.{Shortlex}
 use Rattle.ve_theory.specs.Elements.{AlgebraElement, Element, IsElementOf, algebra_length, element_length, element_times}
-use Rattle.ve_theory.specs.Presentations.{Presentation}
+use Rattle.ve_theory.specs.Presentations.{Presentation, IsWord}
 use Rattle.ve_theory.specs.Validity.{most_terms, most_length}
 use Rattle.ve_formats.specs.Causes as why
 use Rattle.ve_formats.specs.Causes.{Cause, beyond}
 use Rattle.ve_formats.specs.Expressions.{Expression}
 use Rattle.ve_formats.specs.ModuleExpressions.{ModuleExpression, nothing, generator, product, opposite, sum, difference}
 use Rattle.ve_formats.specs.Values.{HasValue}
+
+-- a list of terms of the presentation's free module, within the limits of elements
+pub record IsModuleValue (P : Presentation) (v : Element) : Type 0 where
+  pub reduced : IsReduced Shortlex P.prime v
+  pub words : All (λ t. IsWord P t.0) v
+  pub terms : length v ≤ most_terms
+  pub short : element_length v ≤ most_length
 
 pub data ModuleAddsUp (p : ℕ) (u v : Element) : Result Element Cause → Type 0 where
   added : (w : Element) → length u + length v ≤ most_terms → IsElementOf p w (u ++ v) → ModuleAddsUp p u v (Ok w)

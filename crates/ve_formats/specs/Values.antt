@@ -1,11 +1,12 @@
 -- What expressions are worth in a presentation, and the first fault of those that have no value. Values are worked out from
 -- left to right, inner before outer.
-use Rattle.std.specs.Prelude.{◌≡◌, ◌≢◌, ℕ, suc, ◌+◌, ◌*◌, ◌-◌, ◌<◌, ◌≤◌, List, [], ◌∷◌, ◌++◌, length, Some, Result, Ok, Err, slice_get, Contains, AllPairs}
+use Rattle.std.specs.Prelude.{◌≡◌, ◌≢◌, ℕ, suc, ◌+◌, ◌*◌, ◌-◌, ◌<◌, ◌≤◌, List, [], ◌∷◌, ◌++◌, length, Some, Result, Ok, Err, slice_get, Contains, All, AllPairs}
 use Rattle.ve_theory.specs.Residues.{IsFieldPrime}
-use Rattle.ve_theory.specs.Combinations.{scaled, unit}
+use Rattle.ve_theory.specs.Combinations.{scaled, unit, IsReduced}
+use Rattle.ve_theory.specs.Words.{ShortlexLetters}
 use Rattle.ve_theory.specs.Elements as elements
 use Rattle.ve_theory.specs.Elements.{AlgebraElement, IsAlgebraElementOf, algebra_length}
-use Rattle.ve_theory.specs.Presentations.{Presentation}
+use Rattle.ve_theory.specs.Presentations.{Presentation, letter_count, HasLetters}
 use Rattle.ve_theory.specs.Validity.{most_terms, most_length, most_generators}
 use Rattle.ve_formats.specs.Causes as why
 use Rattle.ve_formats.specs.Causes.{Cause, beyond}
@@ -16,6 +17,14 @@ pub record IsReadable (P : Presentation) : Type 0 where
   pub field : IsFieldPrime P.prime
   pub distinct : AllPairs ◌≢◌ P.names
   pub generators : P.generators ≤ most_generators
+  pub inverses : (x y : ℕ) → slice_get P.inverses x ≡ Some (Some y) → y < letter_count P
+
+-- a list of terms of the presentation's algebra, within the limits of elements
+pub record IsAlgebraValue (P : Presentation) (v : AlgebraElement) : Type 0 where
+  pub reduced : IsReduced ShortlexLetters P.prime v
+  pub letters : All (λ t. HasLetters P t.0) v
+  pub terms : length v ≤ most_terms
+  pub short : algebra_length v ≤ most_length
 
 -- the letter with a name; its number
 abbrev pub HasNumber : List (List ℕ) → List ℕ → ℕ → Type 0

@@ -9,6 +9,9 @@ mod lines;
 mod tokens;
 
 pub use canonical::canonical_spells;
-pub use grammar::{line_forms_once, text_spells_once, values_are_unique};
+pub use grammar::{
+    line_forms_once, readers_read_what_is_spelled, spelled_is_valid, text_spells_once,
+    values_are_elements, values_are_unique,
+};
 pub use lines::text_of_lines_has_them;
 pub use tokens::{decimals_are_numbers, line_lexes_once, tokens_are_in_order};

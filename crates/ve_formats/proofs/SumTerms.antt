@@ -1,0 +1,108 @@
+-- What holds of the keys of sums, scalings and products, and how many terms these have.
+use Rattle.std.proofs.Common.{◌≡◌, ℕ, ◌+◌, ◌*◌, ◌≤◌, max, List, [], ◌∷◌, ◌++◌, length, All, refl, sym, ◌∙◌, length-append, append_assoc, append-nil, arith}
+use Rattle.std.proofs.Math.Nat.{le-max_left, le-max_right, max-le}
+use Rattle.std.proofs.lemmas.List.Elements.{All-nil, All-cons, All-head, All-tail, All-append, All-weaker}
+use Rattle.ve_theory.specs.Combinations.{Combination, scaled}
+use Rattle.ve_theory.specs.Words.{Word, times, start, letters, times_all}
+use Rattle.ve_theory.specs.Elements.{AlgebraElement, Element, letters_times, product, word_times, element_times, greatest}
+
+-- the greatest of the keys' sizes
+
+pub up_to_greatest : {K : Type 0} (size : K → ℕ) (v : Combination K) → All (λ t. size t.0 ≤ greatest size v) v
+unfolding greatest
+up_to_greatest {K} size [] = All-nil (λ (t : K × ℕ). size t.0 ≤ 0)
+up_to_greatest {K} size (t ∷ v) =
+    All-cons (λ (s : K × ℕ). size s.0 ≤ max (size t.0) (greatest size v)) t v (le-max_left (size t.0) (greatest size v))
+    (All-weaker (λ (s : K × ℕ). size s.0 ≤ greatest size v) (λ (s : K × ℕ). size s.0 ≤ max (size t.0) (greatest size v)) (λ s h. raised s h) v (up_to_greatest size v))
+  where
+    raised : (s : K × ℕ) → size s.0 ≤ greatest size v → size s.0 ≤ max (size t.0) (greatest size v)
+    raised s h = let above = le-max_right (size t.0) (greatest size v) in omega (arith, above)
+
+pub greatest_up_to : {K : Type 0} (size : K → ℕ) (n : ℕ) (v : Combination K) → All (λ t. size t.0 ≤ n) v → greatest size v ≤ n
+unfolding greatest
+greatest_up_to size n [] all = omega arith
+greatest_up_to {K} size n (t ∷ v) all = max-le (All-head (λ (s : K × ℕ). size s.0 ≤ n) t v all) (greatest_up_to size n v (All-tail (λ (s : K × ℕ). size s.0 ≤ n) t v all))
+
+-- scalings
+
+module _ {K : Type 0} (c : ℕ) where
+  pub scaled_keys : (Q : K → Type 0) (v : Combination K) → All (λ t. Q t.0) v → All (λ t. Q t.0) (scaled c v)
+  unfolding scaled
+  scaled_keys Q [] all = All-nil (λ (t : K × ℕ). Q t.0)
+  scaled_keys Q (t ∷ v) all =
+      All-cons (λ (s : K × ℕ). Q s.0) (t.0, c * t.1) (scaled c v) (All-head (λ (s : K × ℕ). Q s.0) t v all) (scaled_keys Q v (All-tail (λ (s : K × ℕ). Q s.0) t v all))
+
+  pub length-scaled : (v : Combination K) → length (scaled c v) ≡ length v
+  unfolding scaled
+  length-scaled [] = refl
+  length-scaled (t ∷ v) = omega (arith, length-scaled v)
+
+-- products in the algebra
+
+module _ (Q : List ℕ → Type 0) (v : AlgebraElement) where
+  letters_times-keys : (u : List ℕ) (r : AlgebraElement) → All (λ t. Q (u ++ t.0)) r → All (λ t. Q t.0) (letters_times u r)
+  unfolding letters_times
+  letters_times-keys u [] all = All-nil (λ (t : List ℕ × ℕ). Q t.0)
+  letters_times-keys u (t ∷ r) all = All-cons (λ (s : List ℕ × ℕ). Q s.0) (u ++ t.0, t.1) (letters_times u r) (All-head (λ (s : List ℕ × ℕ). Q (u ++ s.0)) t r all)
+      (letters_times-keys u r (All-tail (λ (s : List ℕ × ℕ). Q (u ++ s.0)) t r all))
+
+  pub product_keys : (u : AlgebraElement) → All (λ s. All (λ t. Q (s.0 ++ t.0)) v) u → All (λ t. Q t.0) (product u v)
+  unfolding product
+  product_keys [] all = All-nil (λ (t : List ℕ × ℕ). Q t.0)
+  product_keys (s ∷ u) all =
+      All-append (λ (t : List ℕ × ℕ). Q t.0) (scaled s.1 (letters_times s.0 v)) (product u v)
+      (scaled_keys s.1 Q (letters_times s.0 v) (letters_times-keys s.0 v (All-head (λ (s : List ℕ × ℕ). All (λ (t : List ℕ × ℕ). Q (s.0 ++ t.0)) v) s u all)))
+      (product_keys u (All-tail (λ (s : List ℕ × ℕ). All (λ (t : List ℕ × ℕ). Q (s.0 ++ t.0)) v) s u all))
+
+length-letters_times : (u : List ℕ) (r : AlgebraElement) → length (letters_times u r) ≡ length r
+unfolding letters_times
+length-letters_times u [] = refl
+length-letters_times u (t ∷ r) = omega (arith, length-letters_times u r)
+
+pub length-product : (u v : AlgebraElement) → length (product u v) ≡ length u * length v
+unfolding product
+length-product [] v = omega arith
+length-product (s ∷ u) v =
+    let all : length (scaled s.1 (letters_times s.0 v) ++ product u v) ≡ length (scaled s.1 (letters_times s.0 v)) + length (product u v) = length-append (scaled s.1 (letters_times s.0 v)) (product u v) in
+    let here : length (scaled s.1 (letters_times s.0 v)) ≡ length v = length-scaled s.1 (letters_times s.0 v) ∙ length-letters_times s.0 v in
+    omega (arith, all, here, length-product u v)
+
+-- products in the module
+
+pub start-times_all : (w : Word) (u : List ℕ) → start (times_all w u) ≡ start w
+unfolding times_all start
+start-times_all w [] = refl
+start-times_all w (x ∷ u) = start-times_all (times w x) u
+
+pub letters-times_all : (w : Word) (u : List ℕ) → letters (times_all w u) ≡ letters w ++ u
+unfolding times_all letters
+letters-times_all w [] = sym (append-nil (letters w))
+letters-times_all w (x ∷ u) = letters-times_all (times w x) u ∙ append_assoc (letters w) (x ∷ []) u
+
+module _ (Q : Word → Type 0) (r : AlgebraElement) where
+  word_times-keys : (w : Word) (s : AlgebraElement) → All (λ t. Q (times_all w t.0)) s → All (λ t. Q t.0) (word_times w s)
+  unfolding word_times
+  word_times-keys w [] all = All-nil (λ (t : Word × ℕ). Q t.0)
+  word_times-keys w (t ∷ s) all = All-cons (λ (s : Word × ℕ). Q s.0) (times_all w t.0, t.1) (word_times w s) (All-head (λ (s : List ℕ × ℕ). Q (times_all w s.0)) t s all)
+      (word_times-keys w s (All-tail (λ (s : List ℕ × ℕ). Q (times_all w s.0)) t s all))
+
+  pub element_times_keys : (u : Element) → All (λ s. All (λ t. Q (times_all s.0 t.0)) r) u → All (λ t. Q t.0) (element_times u r)
+  unfolding element_times
+  element_times_keys [] all = All-nil (λ (t : Word × ℕ). Q t.0)
+  element_times_keys (s ∷ u) all =
+      All-append (λ (t : Word × ℕ). Q t.0) (scaled s.1 (word_times s.0 r)) (element_times u r)
+      (scaled_keys s.1 Q (word_times s.0 r) (word_times-keys s.0 r (All-head (λ (s : Word × ℕ). All (λ (t : List ℕ × ℕ). Q (times_all s.0 t.0)) r) s u all)))
+      (element_times_keys u (All-tail (λ (s : Word × ℕ). All (λ (t : List ℕ × ℕ). Q (times_all s.0 t.0)) r) s u all))
+
+length-word_times : (w : Word) (r : AlgebraElement) → length (word_times w r) ≡ length r
+unfolding word_times
+length-word_times w [] = refl
+length-word_times w (t ∷ r) = omega (arith, length-word_times w r)
+
+pub length-element_times : (u : Element) (r : AlgebraElement) → length (element_times u r) ≡ length u * length r
+unfolding element_times
+length-element_times [] r = omega arith
+length-element_times (s ∷ u) r =
+    let all : length (scaled s.1 (word_times s.0 r) ++ element_times u r) ≡ length (scaled s.1 (word_times s.0 r)) + length (element_times u r) = length-append (scaled s.1 (word_times s.0 r)) (element_times u r) in
+    let here : length (scaled s.1 (word_times s.0 r)) ≡ length r = length-scaled s.1 (word_times s.0 r) ∙ length-word_times s.0 r in
+    omega (arith, all, here, length-element_times u r)
