@@ -1,0 +1,11 @@
+pub mod Tables
+pub mod Books
+pub mod Sound
+pub mod Changes
+pub mod Reaches
+pub mod Steps
+pub mod Roots
+pub mod Numbers
+pub mod Births
+pub mod Growth
+pub mod Kept
