@@ -1,0 +1,31 @@
+-- Sums of vectors, as they are added up.
+use Rattle.std.proofs.Common.{ℕ, ◌<◌, nat_eq, ◌++◌}
+use Rattle.ve_theory.specs.Combinations.{Combination, scaled, IsReduced, IsReducedOf}
+use Rattle.ve_theory.proofs.Sums.{SameWeights, SameWeights-refl, SameWeights-sym, SameWeights-trans, SameWeights-append, SameWeights-scaled, scaled-one, Alike_from_weights, weights_from_Alike, Decides-nat_eq}
+
+pub weights_of : {p : ℕ} {v e : Combination ℕ} → IsReducedOf ◌<◌ nat_eq p v e → SameWeights p v e
+weights_of {p} {v} {e} h = weights_from_Alike nat_eq Decides-nat_eq p v e h.alike
+
+pub reduced_by : {p : ℕ} {v e : Combination ℕ} → IsReduced ◌<◌ p v → SameWeights p v e → IsReducedOf ◌<◌ nat_eq p v e
+reduced_by reduced same = record { reduced = reduced; alike = Alike_from_weights nat_eq same }
+
+pub itself : {p : ℕ} {v : Combination ℕ} → IsReduced ◌<◌ p v → IsReducedOf ◌<◌ nat_eq p v v
+itself {p} {v} reduced = reduced_by reduced (SameWeights-refl p v)
+
+-- the vector of a sum is one of each sum that is alike to it
+pub onto : {p : ℕ} {v e f : Combination ℕ} → IsReducedOf ◌<◌ nat_eq p v e → SameWeights p e f → IsReducedOf ◌<◌ nat_eq p v f
+onto h same = reduced_by h.reduced (SameWeights-trans (weights_of h) same)
+
+-- a multiple is added
+pub added : {p : ℕ} (c : ℕ) {s v e f r : Combination ℕ} → IsReducedOf ◌<◌ nat_eq p s e → IsReducedOf ◌<◌ nat_eq p v f
+    → IsReducedOf ◌<◌ nat_eq p r (s ++ scaled c v) → IsReducedOf ◌<◌ nat_eq p r (e ++ scaled c f)
+added c sum vector result = onto result (SameWeights-append (weights_of sum) (SameWeights-scaled c (weights_of vector)))
+
+pub added_once : {p : ℕ} {s v e f r : Combination ℕ} → IsReducedOf ◌<◌ nat_eq p s e → IsReducedOf ◌<◌ nat_eq p v f
+    → IsReducedOf ◌<◌ nat_eq p r (s ++ scaled 1 v) → IsReducedOf ◌<◌ nat_eq p r (e ++ f)
+added_once {p} {s} {v} {e} {f} {r} sum vector result =
+    onto (added 1 sum vector result) (SameWeights-append (SameWeights-refl p e) (scaled-one p f))
+
+-- once the vector is itself
+pub once : {p : ℕ} {v : Combination ℕ} → IsReduced ◌<◌ p v → IsReducedOf ◌<◌ nat_eq p v (scaled 1 v)
+once {p} {v} reduced = reduced_by reduced (SameWeights-sym (scaled-one p v))

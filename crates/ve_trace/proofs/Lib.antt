@@ -1,0 +1,14 @@
+pub mod Vectors
+pub mod Adding
+pub mod Rows
+pub mod Tracings
+pub mod Terms
+pub mod Products
+pub mod Derivations
+pub mod SoundRows
+pub mod DerivedProducts
+pub mod TracedProducts
+pub mod FoundProducts
+pub mod OwnRelations
+pub mod TotalTables
+pub mod OverTables

@@ -1,0 +1,13 @@
+//! Traces words, relators and submodule relations along the rows of a table.
+#![tactic(auto)]
+
+pub mod laws;
+mod multiples;
+mod sums;
+mod times;
+mod trace;
+
+pub use trace::{trace_relator, trace_sub, trace_word};
+
+#[cfg(test)]
+mod tests;

@@ -1,0 +1,56 @@
+//! A vector times letters.
+
+ghost use Rattle.std.specs.Prelude.{◌<◌, IfOk, nat_eq};
+ghost use Rattle.ve_theory.specs.Combinations.{IsReduced, IsReducedOf};
+ghost use Rattle.ve_vec.specs.Tracing.{AreReduced, CanTrace, HasProducts, vector_times, vector_times_letters};
+
+use crate::multiples::multiple;
+use crate::sums::{row_at, sum_of_rows};
+use std::alloc::Global;
+use ve_field::Field;
+use ve_vec::{Rows, Sparse};
+use ve_word::Memory;
+
+/// The vector times letters, from the first to the last.
+pub(crate) fn times_letters<R: Rows>(
+    alloc: Global,
+    rows: &R,
+    field: &Field,
+    start: &Sparse,
+    letters: &[u8],
+) -> Result<Sparse, Memory>
+    requires rows { AreReduced field.now (R.rows rows.now) }
+    requires start { IsReduced ◌<◌ field.now start.now }
+    requires found { CanTrace field.now (R.rows rows.now) start.now letters.now }
+    ensures { IfOk result (λ v. IsReducedOf ◌<◌ nat_eq field.now v (vector_times_letters (R.rows rows.now) start.now letters.now)) }
+{
+    let Some((first, rest)) = letters.split_first() else {
+        return start.copy();
+    };
+    let mut vector = times_letter(alloc, rows, field, start, *first)?;
+    for letter in rest {
+        vector = times_letter(alloc, rows, field, &vector, *letter)?;
+    }
+    Ok(vector)
+}
+
+/// The vector times a letter.
+fn times_letter<R: Rows>(
+    alloc: Global,
+    rows: &R,
+    field: &Field,
+    vector: &Sparse,
+    letter: u8,
+) -> Result<Sparse, Memory>
+    requires rows { AreReduced field.now (R.rows rows.now) }
+    requires vector { IsReduced ◌<◌ field.now vector.now }
+    requires found { HasProducts field.now (R.rows rows.now) vector.now letter }
+    ensures { IfOk result (λ v. IsReducedOf ◌<◌ nat_eq field.now v (vector_times (R.rows rows.now) vector.now letter)) }
+{
+    // The common case takes no sum, and no memory where the row is short.
+    if vector.len() == 1 {
+        let term = vector.term(0);
+        return multiple(field, term.coef, row_at(rows, term.id, letter));
+    }
+    sum_of_rows(alloc, rows, field, vector, letter, 0, vector.len())
+}
