@@ -1,0 +1,13 @@
+pub mod Heaps
+pub mod Vectors
+pub mod Derived
+pub mod Deleting
+pub mod Forwards
+pub mod Forwarding
+pub mod Substituting
+pub mod Order
+pub mod Rewriting
+pub mod Images
+pub mod Resolving
+pub mod UniqueResolutions
+pub mod Vanishing

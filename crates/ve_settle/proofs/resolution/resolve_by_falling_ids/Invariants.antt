@@ -1,0 +1,22 @@
+use Rattle.std.proofs.Common.{◌≡◌, ℕ, ◌<◌, ◌++◌, Bool}
+use Rattle.std.specs.BinaryHeap.{heap_items}
+use Rattle.ve_theory.specs.Combinations.{difference, IsReduced}
+use Rattle.ve_vec.specs.Vectors.{AllIds}
+use Rattle.ve_table.specs.Tables.{presented}
+use Rattle.ve_table.specs.Sound.{HasLiveIds}
+use Rattle.ve_settle.specs.Settling.{IsForwarding}
+use Rattle.ve_settle.proofs.Resolving.{ceiling, IsKept}
+use Rattle.ve_settle.proofs.resolution.resolve_by_falling_ids.Given as goal
+
+-- what is done and what is left are the vector, but for forwards
+abbrev pub invariant-loop-term : goal.invariant-loop-term
+invariant-loop-term l = record {
+  field : l.left.field ≡ (presented l.table).prime;
+  reduced : IsReduced ◌<◌ (presented l.table).prime l.resolved;
+  live : HasLiveIds l.table l.resolved;
+  forwarding : IsForwarding l.table (difference (presented l.table).prime l.vector (l.resolved ++ heap_items l.left.terms));
+  ids : (among : ℕ → Bool) → IsKept l.table among → AllIds among l.vector → AllIds among l.resolved × AllIds among (heap_items l.left.terms);
+}
+
+abbrev pub decreases-loop-term : goal.decreases-loop-term
+decreases-loop-term l = ceiling (heap_items l.left.terms)

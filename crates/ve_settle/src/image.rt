@@ -1,0 +1,33 @@
+ghost use Rattle.std.specs.Prelude.{◌≡◌, ◌<◌, IfOk, IsSome, length, nat_eq};
+ghost use Rattle.ve_theory.specs.Combinations.{IsReducedOf};
+ghost use Rattle.ve_theory.specs.Answers.{IsRow};
+ghost use Rattle.ve_theory.specs.Derivations.{DerivedWithin};
+ghost use Rattle.ve_table.specs.Tables.{element_of, presented, row_at, IsDead};
+ghost use Rattle.ve_settle.specs.Settling.{image_difference};
+
+use crate::rows::row_of;
+use std::alloc::Global;
+use ve_table::Table;
+use ve_vec::Sparse;
+use ve_word::Memory;
+
+/// The row of a dead id at a letter, less the same combination of rows as its forward has of ids.
+pub fn image_of(alloc: Global, table: &Table, dead: u32, letter: u8) -> Result<Sparse, Memory>
+    requires dead { IsDead table.now dead }
+    requires row { IsSome (row_at table.now dead letter) }
+    ensures difference { IfOk result (λ v. IsReducedOf ◌<◌ nat_eq (presented table.now).prime v (image_difference table.now dead letter)) }
+    ensures row { IfOk result (IsRow (presented table.now).prime (length table.now.words)) }
+    ensures derived { IfOk result (λ v. DerivedWithin (presented table.now) table.now.level (element_of table.now v)) }
+{
+    ve_theory::order::reach_adds_up();
+    ve_theory::order::words_are_ordered();
+    let field = *table.presentation().field();
+    let forward = table.forward(dead).unwrap();
+    let mut image = Sparse::zero(alloc);
+    image.add_scaled(&field, 1, row_of(table, dead, letter))?;
+    for at in 0..forward.len() {
+        let term = forward.term(at);
+        image.add_scaled(&field, field.neg(term.coef), row_of(table, term.id, letter))?;
+    }
+    Ok(image)
+}

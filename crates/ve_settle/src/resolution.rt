@@ -1,0 +1,59 @@
+ghost use Rattle.std.specs.Prelude.{◌≡◌, ℕ, ◌<◌, ◌≤◌, All, IfOk, length};
+ghost use Rattle.ve_theory.specs.Combinations.{difference};
+ghost use Rattle.ve_theory.specs.Answers.{IsRow};
+ghost use Rattle.ve_theory.specs.Derivations.{DerivedWithin};
+ghost use Rattle.ve_table.specs.Tables.{element_of, presented};
+ghost use Rattle.ve_settle.specs.Settling.{IsResolved, ResolutionsAreUnique};
+
+use crate::heap::TermHeap;
+use crate::live::has_live_ids;
+use crate::sound::table_is_sound;
+use crate::terms::add_term;
+use std::alloc::Global;
+use ve_table::Table;
+use ve_vec::Sparse;
+use ve_word::Memory;
+
+/// A vector without dead ids that is equal to this one, where each dead id is the vector that stands for it.
+pub fn resolve(alloc: Global, table: &Table, vector: &Sparse) -> Result<Sparse, Memory>
+    requires { IsRow (presented table.now).prime (length table.now.words) vector.now }
+    ensures resolved { IfOk result (IsResolved table.now vector.now) }
+    ensures row { IfOk result (IsRow (presented table.now).prime (length table.now.words)) }
+    ensures derived { IfOk result (λ v. DerivedWithin (presented table.now) table.now.level
+        (difference (presented table.now).prime (element_of table.now vector.now) (element_of table.now v))) }
+    // No id is above all those of the vector.
+    ensures ids { IfOk result (λ v. (bound : ℕ) → All (λ t. t.0 ≤ bound) vector.now → All (λ t. t.0 ≤ bound) v) }
+{
+    table_is_sound(table);
+    if has_live_ids(table, vector) {
+        let copy = vector.copy()?;
+        return Ok(copy);
+    }
+    let resolved = resolve_by_falling_ids(alloc, table, vector)?;
+    Ok(resolved)
+}
+
+// A forward has lower ids than the id that it stands for. So once the terms of an id are added up, no later forward brings it in
+// again, and each id is met once.
+fn resolve_by_falling_ids(alloc: Global, table: &Table, vector: &Sparse) -> Result<Sparse, Memory>
+    requires { IsRow (presented table.now).prime (length table.now.words) vector.now }
+    ensures resolved { IfOk result (IsResolved table.now vector.now) }
+    ensures ids { IfOk result (λ v. (bound : ℕ) → All (λ t. t.0 ≤ bound) vector.now → All (λ t. t.0 ≤ bound) v) }
+{
+    let field = *table.presentation().field();
+    let mut left = TermHeap::new(alloc, field);
+    left.push_scaled(1, vector)?;
+    let mut resolved = Sparse::zero(alloc);
+    while let Some(term) = left.pop() {
+        match table.forward(term.id) {
+            Some(forward) => left.push_scaled(term.coef, forward)?,
+            None => add_term(alloc, &mut resolved, &field, term)?,
+        }
+    }
+    Ok(resolved)
+}
+
+/// A vector is equal to at most one vector without dead ids.
+pub fn resolutions_are_unique()
+    ensures { ResolutionsAreUnique }
+{}

@@ -1,0 +1,238 @@
+ghost use Rattle.std.specs.Prelude.{◌≡◌, ◌<◌, IfOk, IsTrue, Some, [], length, slice_get};
+ghost use Rattle.ve_theory.specs.Combinations.{unit};
+ghost use Rattle.ve_theory.specs.Presentations.{relators};
+ghost use Rattle.ve_theory.specs.Answers.{IsRow};
+ghost use Rattle.ve_table.specs.Tables.{presented};
+
+use super::*;
+use crate::live::has_live_ids;
+use crate::sound::table_is_sound;
+use crate::terms::add_term;
+use std::alloc::Global;
+use std::test::Fail;
+use ve_field::Field;
+use ve_pres::{FreeAlg, Presentation};
+use ve_table::Table;
+use ve_vec::{Rows, Sparse, Term};
+use ve_word::Memory;
+
+/// Terms, each an id and a coefficient, by falling id.
+type Terms = &'static [(u32, u8)];
+
+/// A call, and what it has to answer.
+enum Step {
+    /// `delete` answers this id, and this is the id's forward.
+    Delete(Terms, Option<u32>, Terms),
+    /// `resolve` answers this vector.
+    Resolve(Terms, Terms),
+    /// `image_of` answers this vector at a dead id.
+    Image(u32, Terms),
+    /// `rewrite` answers this at an id, and this is the row.
+    Rewrite(u32, bool, Terms),
+}
+
+// Modulo 2 on the words e1, e1*x, e1*x*x.
+const TWO_CYCLE: [Step; 6] = [
+    Step::Delete(&[(2, 1), (0, 1)], Some(2), &[(0, 1)]),
+    Step::Resolve(&[(2, 1)], &[(0, 1)]),
+    Step::Rewrite(1, true, &[(0, 1)]),
+    Step::Rewrite(1, false, &[(0, 1)]),
+    Step::Rewrite(0, false, &[(1, 1)]),
+    Step::Delete(&[], None, &[]),
+];
+
+// Modulo 5 on the words from e1 to e1*x*x*x*x.
+const FIVE: [Step; 19] = [
+    // The forward is divided by the negative of the coefficient.
+    Step::Delete(&[(4, 2), (3, 4), (1, 1)], Some(4), &[(3, 3), (1, 2)]),
+    Step::Delete(&[(3, 3), (2, 1), (0, 4)], Some(3), &[(2, 3), (0, 2)]),
+    Step::Image(3, &[(4, 1), (3, 2), (1, 3)]),
+    // The forward of 4 has 3 in it, which is dead too.
+    Step::Resolve(&[(4, 1)], &[(2, 4), (1, 2), (0, 1)]),
+    Step::Resolve(&[(4, 1), (3, 2)], &[(1, 2)]),
+    Step::Resolve(&[(4, 1), (2, 1), (1, 3), (0, 4)], &[]),
+    Step::Resolve(&[(2, 4), (0, 3)], &[(2, 4), (0, 3)]),
+    Step::Resolve(&[], &[]),
+    // A dead id that a forward brings in stays for the next time.
+    Step::Rewrite(3, true, &[(3, 3), (1, 2)]),
+    Step::Rewrite(3, true, &[(2, 4), (1, 2), (0, 1)]),
+    Step::Rewrite(3, false, &[(2, 4), (1, 2), (0, 1)]),
+    Step::Rewrite(2, true, &[(2, 3), (0, 2)]),
+    Step::Image(3, &[]),
+    // Both ids of the row die, and the forward of one brings the other back.
+    Step::Delete(&[(2, 1), (0, 4)], Some(2), &[(0, 1)]),
+    Step::Delete(&[(0, 3)], Some(0), &[]),
+    Step::Rewrite(2, true, &[(0, 3)]),
+    Step::Rewrite(2, true, &[]),
+    Step::Rewrite(3, true, &[(1, 2), (0, 4)]),
+    Step::Resolve(&[(4, 1), (3, 1), (2, 1), (1, 1), (0, 1)], &[(1, 3)]),
+];
+
+#[test]
+fn two_cycle(rt: HostRuntime) -> Result<(), Fail> {
+    let mut table = table_of(rt.alloc(), 2, 2)?;
+    for (at, step) in TWO_CYCLE.iter().enumerate() {
+        assert!(rt; passes(rt.alloc(), &mut table, step)?, "at {at}");
+    }
+    Ok(())
+}
+
+#[test]
+fn five(rt: HostRuntime) -> Result<(), Fail> {
+    let mut table = table_of(rt.alloc(), 5, 4)?;
+    for (at, step) in FIVE.iter().enumerate() {
+        assert!(rt; passes(rt.alloc(), &mut table, step)?, "at {at}");
+    }
+    Ok(())
+}
+
+/// The table of one generator and one letter at a level, modulo a prime, where every vector vanishes.
+fn table_of(alloc: Global, prime: u64, level: u32) -> Result<Table, Fail>
+    ensures { IfOk result (λ table. slice_get (relators (presented table)) 0 ≡ Some (unit [])) }
+{
+    let Some(field) = Field::new(prime) else {
+        return Err(Memory.into());
+    };
+    let mut table = Table::open(alloc, vanishing(alloc, field)?)?;
+    for _ in 0..level {
+        if table.next_size() > 1_000 || table.level() > 1_000 {
+            return Err(Memory.into());
+        }
+        table.grow_level()?;
+    }
+    Ok(table)
+}
+
+/// One generator and one letter under the relation 1 = 0.
+fn vanishing(alloc: Global, field: Field) -> Result<Presentation, Fail>
+    ensures { IfOk result (λ draft. slice_get (relators draft.presentation) 0 ≡ Some (unit [])) }
+{
+    let _prime = field.prime();
+    let mut presentation = Presentation::new(alloc, field);
+    presentation.add_letter("x")?;
+    let one = FreeAlg::constant(alloc, &field, 1)?;
+    presentation.add_relation(one)?;
+    Ok(presentation)
+}
+
+fn passes(alloc: Global, table: &mut Table, step: &Step) -> Result<bool, Memory>
+    requires { slice_get (relators (presented table.old)) 0 ≡ Some (unit []) }
+    ensures { table.new.draft ≡ table.old.draft }
+{
+    match step {
+        Step::Delete(vector, answer, forward) => deletes(alloc, table, vector, *answer, forward),
+        Step::Resolve(vector, resolved) => resolves(alloc, table, vector, resolved),
+        Step::Image(dead, image) => has_image(alloc, table, *dead, image),
+        Step::Rewrite(id, had, row) => rewrites(alloc, table, *id, *had, row),
+    }
+}
+
+fn deletes(
+    alloc: Global,
+    table: &mut Table,
+    vector: &[(u32, u8)],
+    answer: Option<u32>,
+    forward: &[(u32, u8)],
+) -> Result<bool, Memory>
+    requires { slice_get (relators (presented table.old)) 0 ≡ Some (unit []) }
+    ensures { table.new.draft ≡ table.old.draft }
+{
+    table_is_sound(table);
+    let vector = vector_of(alloc, table, vector)?;
+    if !is_row(table, &vector) || !has_live_ids(table, &vector) {
+        return Ok(false);
+    }
+    if delete(table, vector) != answer {
+        return Ok(false);
+    }
+    Ok(match answer {
+        Some(id) => has_forward(table, id, forward),
+        None => true,
+    })
+}
+
+fn resolves(
+    alloc: Global,
+    table: &Table,
+    vector: &[(u32, u8)],
+    resolved: &[(u32, u8)],
+) -> Result<bool, Memory> {
+    let vector = vector_of(alloc, table, vector)?;
+    if !is_row(table, &vector) {
+        return Ok(false);
+    }
+    let found = resolve(alloc, table, &vector)?;
+    Ok(is_vector(&found, resolved))
+}
+
+fn has_image(alloc: Global, table: &Table, dead: u32, image: &[(u32, u8)]) -> Result<bool, Memory> {
+    if !table.has_row(dead, 0) || table.forward(dead).is_none() {
+        return Ok(false);
+    }
+    let found = image_of(alloc, table, dead, 0)?;
+    Ok(is_vector(&found, image))
+}
+
+fn rewrites(
+    alloc: Global,
+    table: &mut Table,
+    id: u32,
+    had: bool,
+    row: &[(u32, u8)],
+) -> Result<bool, Memory>
+    ensures { table.new.draft ≡ table.old.draft }
+{
+    if !table.has_row(id, 0) {
+        return Ok(false);
+    }
+    let answer = rewrite(alloc, table, id, 0)?;
+    Ok(answer == had && is_vector_at(table.row(id, 0), row))
+}
+
+/// The sum of the terms. Coefficients are taken modulo the prime.
+fn vector_of(alloc: Global, table: &Table, terms: &[(u32, u8)]) -> Result<Sparse, Memory> {
+    let field = *table.presentation().field();
+    let _prime = field.prime();
+    let mut sum = Sparse::zero(alloc);
+    for (id, coef) in terms {
+        let coef = field.reduce(u128::from(*coef));
+        add_term(alloc, &mut sum, &field, Term { id: *id, coef })?;
+    }
+    Ok(sum)
+}
+
+/// Whether the ids are the table's and the coefficients residues.
+fn is_row(table: &Table, vector: &Sparse) -> bool
+    ensures { IsTrue result → IsRow (presented table.now).prime (length table.now.words) vector.now }
+{
+    for at in 0..vector.len() {
+        if vector.term(at).id >= table.id_count() {
+            return false;
+        }
+    }
+    vector.fits(table.presentation().field())
+}
+
+fn has_forward(table: &Table, id: u32, forward: &[(u32, u8)]) -> bool {
+    id < table.id_count() && is_vector_at(table.forward(id), forward)
+}
+
+fn is_vector_at(vector: Option<&Sparse>, terms: &[(u32, u8)]) -> bool {
+    match vector {
+        Some(vector) => is_vector(vector, terms),
+        None => false,
+    }
+}
+
+fn is_vector(vector: &Sparse, terms: &[(u32, u8)]) -> bool {
+    if vector.len() != terms.len() {
+        return false;
+    }
+    for at in 0..vector.len() {
+        let (id, coef) = terms[at];
+        if vector.term(at) != (Term { id, coef }) {
+            return false;
+        }
+    }
+    true
+}
