@@ -1,0 +1,11 @@
+use Rattle.std.proofs.lemmas.Result.{err_from_is_err_and}
+use Rattle.ve_value.proofs.Limits.{adds_up, sum_refused}
+use Rattle.ve_value.proofs.factor.joined.Goals as goal
+
+pub returns-in_err-plus-in-Some : goal.returns-in_err-plus-in-Some
+returns-in_err-plus-in-Some c =
+    let failed = err_from_is_err_and c.from_residual.result c.from_residual.ensures.1 in
+    rw (c.in-Some.is, failed.1, failed.2) (sum_refused _ _ _ _ c.in_err-plus-in-Some.ensures.limit)
+
+pub returns-in_ok-plus-in-Some : goal.returns-in_ok-plus-in-Some
+returns-in_ok-plus-in-Some c = rw (c.in-Some.is, ← c.field.ensures.field) (adds_up _ _ _ _ c.in_ok-plus-in-Some.ensures.sum c.in_ok-plus-in-Some.ensures.limit)

@@ -1,0 +1,7 @@
+use Rattle.std.proofs.Common.{drop}
+use Rattle.ve_value.specs.Shapes.{tokens_in}
+use Rattle.ve_value.proofs.Evaluating.{IsWorkBefore}
+use Rattle.ve_value.proofs.value.value_of.Given as goal
+
+abbrev pub invariant-loop-placed : goal.invariant-loop-placed
+invariant-loop-placed l = IsWorkBefore l.presentation.presentation l.work (tokens_in l.tokens) (tokens_in (drop l.placed-index l.tokens))

@@ -1,0 +1,7 @@
+pub mod Faults
+pub mod Signs
+pub mod Shapes
+pub mod Evaluation
+pub mod Given
+pub mod ModuleShapes
+pub mod ModuleEvaluation
