@@ -1,0 +1,13 @@
+mod SameWords
+mod Fronts
+mod Equations
+mod Told
+mod Letters
+mod HeaderLines
+mod LetterLines
+mod RelationLines
+mod Depth
+mod LineSteps
+mod TextSteps
+mod EndLines
+mod Cuts

@@ -1,0 +1,5 @@
+pub mod Refusals
+pub mod Fronts
+pub mod Forms
+pub mod Drafts
+pub mod Cutting

@@ -1,0 +1,17 @@
+//! Reads the text of a presentation, line by line.
+#![tactic(auto)]
+
+mod building;
+mod cut;
+mod draft;
+mod form;
+mod keyword;
+mod lines;
+mod why;
+
+pub use cut::split;
+pub use lines::read;
+pub use why::{ReadRefusal, Why};
+
+#[cfg(test)]
+mod tests;

@@ -1,0 +1,48 @@
+//! Where texts are cut.
+
+use crate::split;
+
+const CASES: [(&[u8], usize); 26] = [
+    (b"", 0),
+    (b"\n", 1),
+    (b"end", 3),
+    (b"end\n", 4),
+    (b"end\nrest", 4),
+    (b" end\nx", 5),
+    (b"end # c\nx", 8),
+    (b"end\r\nx", 5),
+    (b"\tend\r", 5),
+    (b"# end\nend\n\n", 10),
+    (b"ends\nx", 6),
+    (b"end end\nx", 9),
+    (b"end 1\nend\ny", 10),
+    (b"end $\nend\nend\n", 10),
+    (b"end 1234567890123456789\nx", 25),
+    (b"relation end = 0\nend\nx", 21),
+    (b"end=\nend#\n#", 10),
+    (b"x\nEnd\n", 6),
+    (b"\xff\nend\n\xff", 6),
+    (b"en\nd\n", 5),
+    (
+        b"venum 1\nprime 2\nletter x\nmodule 1\nrelation x^2 = 1\nend\nvenum-answer 1\nprime 2\nletters x\nmodule 1\nclosed 3\ndimension 2\nbasis e1\nbasis e1*x\nimage 1 0\nletter x\nrow 0 1\nrow 1 0\nend\n",
+        55,
+    ),
+    (
+        b"venum 1\nprime 2\nletter x\nmodule 1\nrelation x^2 = 1\nend\n",
+        55,
+    ),
+    (
+        b"venum 1\nprime 2\nletter x\nmodule 1\nrelation x^2 = 1\nend",
+        54,
+    ),
+    (b"venum\nletter end\nend\nend\n", 21),
+    (b"(end\nend)\nend (\n", 16),
+    (b"end#\x00\xff$\n1", 8),
+];
+
+#[test]
+fn texts_are_cut_behind_their_end(rt: HostRuntime) {
+    for (text, place) in CASES {
+        assert_eq!(rt; split(text), place, "{text:?}");
+    }
+}
