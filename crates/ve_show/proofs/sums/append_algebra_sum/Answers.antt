@@ -1,0 +1,13 @@
+use Rattle.std.proofs.Common.{sym, ◌∙◌, append-nil, arith, []}
+use Rattle.ve_formats.specs.CanonicalText.{joined_terms, algebra_term_text}
+use Rattle.ve_show.proofs.Joined.{next_term}
+use Rattle.ve_show.proofs.sums.append_algebra_sum.Goals as goal
+
+pub loop-at-init : goal.loop-at-init
+unfolding joined_terms
+loop-at-init c = sym (append-nil c.args.line.now.items)
+
+pub loop-at-preserved : goal.loop-at-preserved
+loop-at-preserved c =
+    next_term (algebra_term_text c.args.names.now) c.args.element.now c.loop-at.at ([], 0) _ _ _ _ _ _ (omega arith) (c.deref.ensures.value ∙ c.word_at.ensures.word) c.coef_at.ensures c.loop-at.invariant c.in_ok-append_joint.ensures
+    c.in_ok-append_algebra_term.ensures

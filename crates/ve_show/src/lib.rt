@@ -1,0 +1,13 @@
+//! Presentations, written as their canonical texts.
+#![tactic(auto)]
+
+mod letters;
+mod pieces;
+mod relations;
+mod sums;
+mod text;
+
+pub use text::show;
+
+#[cfg(test)]
+mod tests;
