@@ -1,7 +1,6 @@
 pub mod PowerRelation
 pub mod PowerText
-pub mod FirstForm
-pub mod FirstFormParts
+pub mod PowerLaws
+pub mod Commands
 pub mod Ending
 pub mod Stops
-pub mod PowerLaws

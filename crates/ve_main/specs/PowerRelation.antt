@@ -1,5 +1,5 @@
 -- Modules of one letter under one relation between two of its powers.
-use Rattle.std.specs.Prelude.{◌≢◌, ℕ, zero, suc, ◌+◌, ◌-◌, ◌*◌, ◌≤◌, max, min, false, cond, nat_lt, List, [], ◌∷◌, None, map, replicate, IsTrue, IsFalse}
+use Rattle.std.specs.Prelude.{◌≡◌, ◌≢◌, ℕ, zero, suc, ◌+◌, ◌-◌, ◌*◌, ◌≤◌, max, min, false, cond, nat_lt, List, [], ◌∷◌, None, map, replicate, IsTrue, IsFalse}
 use Rattle.ve_theory.specs.Residues.{IsFieldPrime}
 use Rattle.ve_theory.specs.Combinations.{unit}
 use Rattle.ve_theory.specs.Words.{Word, generator, times}
@@ -31,25 +31,34 @@ unfoldable pub power_word : ℕ → Word
 power_word zero = generator 0
 power_word (suc n) = times (power_word n) 0
 
--- x^left - x^right, its longer power first
+-- x^left - x^right over the field of `prime` elements, its longer power first
+abbrev pub power_difference : (prime left right : ℕ) → AlgebraElement
+power_difference prime left right = cond (nat_lt right left)
+    ((power_letters left, 1) ∷ (power_letters right, prime - 1) ∷ [])
+    ((power_letters right, prime - 1) ∷ (power_letters left, 1) ∷ [])
+
 abbrev pub power_relator : PowerRelation → AlgebraElement
-power_relator R = cond (nat_lt R.right R.left)
-    ((power_letters R.left, 1) ∷ (power_letters R.right, R.prime - 1) ∷ [])
-    ((power_letters R.right, R.prime - 1) ∷ (power_letters R.left, 1) ∷ [])
+power_relator R = power_difference R.prime R.left R.right
 
 -- one letter without inverse, one generator, this relation
-abbrev pub presentation_of : PowerRelation → Presentation
-presentation_of R = record {
+abbrev pub one_relation_presentation : (prime : ℕ) (name : List ℕ) (relation : AlgebraElement) → Presentation
+one_relation_presentation prime name relation = record {
   version = 1;
   is_balanced = false;
-  prime = R.prime;
-  names = R.name ∷ [];
+  prime = prime;
+  names = name ∷ [];
   inverses = None ∷ [];
   weights = 1 ∷ [];
   generators = 1;
-  relations = power_relator R ∷ [];
+  relations = relation ∷ [];
   submodule = [];
 }
+
+abbrev pub HasOneRelation : Presentation → Type 0
+HasOneRelation P = (name : List ℕ) × (relation : AlgebraElement) × (P ≡ one_relation_presentation P.prime name relation)
+
+abbrev pub presentation_of : PowerRelation → Presentation
+presentation_of R = one_relation_presentation R.prime R.name (power_relator R)
 
 -- the longer and the shorter power
 abbrev pub high : PowerRelation → ℕ

@@ -4,11 +4,12 @@ use Rattle.ve_formats.specs.Messages.{usage_message, too_long_message, not_yet_m
 use Rattle.ve_port.specs.declared.fault.OutFault.{OutFault}
 use Rattle.ve_port.specs.declared.fault.OutFault.TheVariants.{Sink, Memory as NoMemory}
 use Rattle.ve_main.specs.declared.stop.Stop.{Stop}
-use Rattle.ve_main.specs.declared.stop.Stop.TheVariants.{Words, TooLong, NotYet, Input, Output, Memory}
+use Rattle.ve_main.specs.declared.stop.Stop.TheVariants.{Words, TooLong, Refused, NotYet, Input, Output, Memory}
 
 abbrev pub status_of : Stop → ℕ
 status_of Words = 2
 status_of TooLong = 3
+status_of (Refused message) = 3
 status_of NotYet = 3
 status_of Input = 4
 status_of Output = 5
@@ -17,6 +18,7 @@ status_of Memory = 6
 abbrev pub message_of : Stop → List ℕ
 message_of Words = usage_message
 message_of TooLong = too_long_message
+message_of (Refused message) = message.items
 message_of NotYet = not_yet_message
 message_of Input = input_message
 message_of Output = output_message

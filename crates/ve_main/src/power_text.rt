@@ -9,25 +9,9 @@ ghost use Rattle.ve_main.specs.PowerRelation.{power_word, power_answer, high};
 ghost use Rattle.ve_main.specs.PowerText.{power_lines, power_row_lines, unit_entries};
 
 use crate::power_relation::PowerRelation;
-use itoa::Buffer;
+use crate::text::{append, append_number};
 use std::alloc::Global;
 use ve_word::Memory;
-
-/// Appends the bytes.
-fn append(text: &mut Vec<u8>, bytes: &[u8]) -> Result<(), Memory>
-    ensures { IfOk result (λ _. text.new.items ≡ text.old.items ++ bytes.now) }
-{
-    text.extend_from_slice(bytes)?;
-    Ok(())
-}
-
-/// Appends a number.
-fn append_number(text: &mut Vec<u8>, number: usize) -> Result<(), Memory>
-    ensures { IfOk result (λ _. text.new.items ≡ text.old.items ++ decimal number) }
-{
-    let mut buffer = Buffer::new();
-    append(text, buffer.format(number).as_bytes())
-}
 
 /// Appends a line, of a word and the bytes after it.
 fn append_line(text: &mut Vec<u8>, word: &[u8], rest: &[u8]) -> Result<(), Memory>
@@ -39,7 +23,7 @@ fn append_line(text: &mut Vec<u8>, word: &[u8], rest: &[u8]) -> Result<(), Memor
 }
 
 /// Appends a line of a word and a number.
-fn append_numbered_line(text: &mut Vec<u8>, word: &[u8], number: usize) -> Result<(), Memory>
+fn append_numbered_line(text: &mut Vec<u8>, word: &[u8], number: u64) -> Result<(), Memory>
     ensures { IfOk result (λ _. text.new.items ≡ text.old.items ++ line_text (numbered word.now number)) }
 {
     append(text, word)?;
@@ -102,11 +86,11 @@ fn append_head(text: &mut Vec<u8>, relation: &PowerRelation) -> Result<(), Memor
 {
     let dimension = relation.dimension();
     append_line(text, b"venum-answer 1", b"")?;
-    append_numbered_line(text, b"prime", usize::from(relation.prime()))?;
+    append_numbered_line(text, b"prime", u64::from(relation.prime()))?;
     append_line(text, b"letters ", relation.name())?;
     append_numbered_line(text, b"module", 1)?;
-    append_numbered_line(text, b"closed", 2 * dimension - 1)?;
-    append_numbered_line(text, b"dimension", dimension)?;
+    append_numbered_line(text, b"closed", 2 * dimension as u64 - 1)?;
+    append_numbered_line(text, b"dimension", dimension as u64)?;
     Ok(())
 }
 

@@ -6,13 +6,15 @@ use ve_port::OutFault;
 use ve_word::Memory;
 
 /// Why a run ends without its text.
-#[derive(Clone, Copy, Debug, PartialEq, Eq)]
+#[derive(Drop)]
 pub enum Stop {
     /// The words of the command line are refused.
     Words,
     /// The input is too long.
     TooLong,
-    /// The text is not of a form that can be worked on.
+    /// The text is refused, with the message of its first fault.
+    Refused(Vec<u8>),
+    /// The presentation is not one that can be worked on.
     NotYet,
     /// The source failed.
     Input,
@@ -24,12 +26,12 @@ pub enum Stop {
 
 impl Stop {
     /// The status that the program ends with.
-    pub fn status(self) -> u8
-        ensures { result ≡ status_of self }
+    pub fn status(&self) -> u8
+        ensures { result ≡ status_of self.now }
     {
         match self {
             Stop::Words => 2,
-            Stop::TooLong | Stop::NotYet => 3,
+            Stop::TooLong | Stop::Refused(_) | Stop::NotYet => 3,
             Stop::Input => 4,
             Stop::Output => 5,
             Stop::Memory => 6,
@@ -37,14 +39,15 @@ impl Stop {
     }
 
     /// The line for the error output.
-    pub fn message(self) -> &'static [u8]
-        ensures { result.now ≡ message_of self }
+    pub fn message(&self) -> &[u8]
+        ensures { result.now ≡ message_of self.now }
     {
         match self {
             Stop::Words => {
                 b"venum: usage: venum alone, shared, show, check or make, with their options\n"
             }
             Stop::TooLong => b"venum: input longer than 16777216 bytes\n",
+            Stop::Refused(message) => message,
             Stop::NotYet => b"venum: not yet\n",
             Stop::Input => b"venum: input failed\n",
             Stop::Output => b"venum: output failed\n",

@@ -1,5 +1,24 @@
-use Rattle.ve_main.proofs.Runs.{served_stop}
+use Rattle.std.proofs.Common.{inl}
+use Rattle.ve_port.specs.Sink.{Gains-nil}
+use Rattle.ve_main.proofs.Runs.{IsReadOnce, finished_due, stopped_due, told_put, told_status}
 use Rattle.ve_main.proofs.run.run_alone.Goals as goal
 
+pub returns-in-Ok-clause-serves : goal.returns-in-Ok-clause-serves
+returns-in-Ok-clause-serves g c command text due message served is_due =
+    let once : IsReadOnce = record {
+      same_presentation = c.text_spells_once.ensures.same_presentation;
+      same_refusal = c.text_spells_once.ensures.same_refusal;
+      never_both = c.text_spells_once.ensures.never_both;
+    } in
+    told_status (finished_due once c.in-Ok.ensures.finished command text due message served is_due) (inl (Gains-nil _))
+
 pub returns-in-Err-clause-serves : goal.returns-in-Err-clause-serves
-returns-in-Err-clause-serves g c served = rw c.status.ensures (served_stop _ _ _ c.in-Err.stop c.in-Err.ensures.stopped served)
+returns-in-Err-clause-serves g c command text due message served is_due =
+    let once : IsReadOnce = record {
+      same_presentation = c.text_spells_once.ensures.same_presentation;
+      same_refusal = c.text_spells_once.ensures.same_refusal;
+      never_both = c.text_spells_once.ensures.never_both;
+    } in
+    rw c.status.ensures
+    (told_status (stopped_due once c.in-Err.stop c.in-Err.ensures.stopped command text due message served is_due)
+    (told_put c.put.result c.put.ensures.gained c.put.ensures.failed c.message.ensures))
