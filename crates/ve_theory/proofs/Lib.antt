@@ -1,5 +1,6 @@
 -- Lemmas that several proofs share.
 pub mod AnswerKernels
+pub mod ClosedLevels
 pub mod DerivationTrees
 pub mod DerivedElements
 pub mod Evaluation

@@ -1,10 +1,10 @@
 -- What holds of the definitions. Each law is the contract of the function of its name.
-use Rattle.std.specs.Prelude.{◌≡◌, ℕ, ◌+◌, ◌*◌, ◌<◌, ◌≤◌, ◌⊎◌, ◌↔◌, Bool, List, [], ◌∷◌, ◌++◌, All, AllPairs, Contains, nat_eq}
+use Rattle.std.specs.Prelude.{◌≡◌, ℕ, ◌+◌, ◌*◌, ◌<◌, ◌≤◌, ◌⊎◌, ◌↔◌, Bool, List, [], ◌∷◌, ◌++◌, length, All, AllPairs, Contains, nat_eq}
 use Rattle.ve_theory.specs.Residues.{IsFieldPrime, Congruent}
 use Rattle.ve_theory.specs.Combinations.{Combination, unit, scaled, coefficient, Alike, IsReduced}
 use Rattle.ve_theory.specs.Words.{Word, generator, times, times_all, same_word, same_letters, Shortlex, ShortlexLetters, Weighted}
 use Rattle.ve_theory.specs.Elements.{AlgebraElement, Element, product, word_times, element_times, times_letter, halved, IsAlgebraElementOf}
-use Rattle.ve_theory.specs.Presentations.{Presentation, IsPresentation, IsWord, relator, submodule_relation, step, reach, relator_reach, element_reach, before, greatest_step, relator_bound, submodule_bound}
+use Rattle.ve_theory.specs.Presentations.{Presentation, IsPresentation, IsWord, letter_count, relators, relator, submodule_relation, step, reach, relator_reach, element_reach, due, before, greatest_step, relator_bound, submodule_bound}
 use Rattle.ve_theory.specs.Derivations.{Derived, DerivedWithin}
 use Rattle.ve_theory.specs.Levels.{IsNormal, IsLeast, Lists, HasSize, Closes, IsClosingLevel}
 use Rattle.ve_theory.specs.Answers.{Row, Action, Answer, HasShape, HasPlacedRows, IsGrown, HasDerivedRows, IsOrdered, IsModuleAnswer, IsAnswer, IsQuotient, MeetsRelations, evaluation, IsZeroRow}
@@ -99,6 +99,21 @@ pub record LevelsGrow : Type 0 where
   pub higher : (P : Presentation) (j k : ℕ) (v : Element) → j ≤ k → DerivedWithin P j v → DerivedWithin P k v
   pub derived : (P : Presentation) (k : ℕ) (v : Element) → DerivedWithin P k v → Derived P v
   pub some_level : (P : Presentation) (v : Element) → Derived P v → (k : ℕ) × DerivedWithin P k v
+
+-- Within a level the derived elements are closed under sums, scalings and letters, as long as the product stays within it. So
+-- are words times relators, and submodule relations.
+pub record IsClosedWithin (P : Presentation) (k : ℕ) : Type 0 where
+  pub alike : (u v : Element) → Alike same_word P.prime u v → DerivedWithin P k u → DerivedWithin P k v
+  pub empty : DerivedWithin P k []
+  pub combined : (c d : ℕ) (u v : Element) → DerivedWithin P k u → DerivedWithin P k v → DerivedWithin P k (scaled c u ++ scaled d v)
+  pub letters : (v : Element) (x : ℕ) → x < letter_count P → element_reach P (times_letter v x) ≤ k → DerivedWithin P k v → DerivedWithin P k (times_letter v x)
+  pub by_relators : (w : Word) (number : ℕ) → IsWord P w → number < length (relators P) → due P w (relator P number) ≤ k
+      → DerivedWithin P k (word_times w (relator P number))
+  pub by_submodule : (number : ℕ) → number < length P.submodule → element_reach P (submodule_relation P number) ≤ k
+      → DerivedWithin P k (submodule_relation P number)
+
+abbrev pub LevelsAreClosed : Type 0
+LevelsAreClosed = (P : Presentation) (k : ℕ) → IsClosedWithin P k
 
 -- each word of the element is one of the presentation's
 abbrev pub IsElement : Presentation → Element → Type 0
