@@ -12,17 +12,17 @@ use std::test::Fail;
 use ve_field::Field;
 use ve_word::NameFault;
 
-// Tries to add letters. Those that stand are a and b, which are their own inverses, x with the inverse X, and c.
+// Tries to add letters. Those that stand are x with the inverse X, then a and b, which are their own inverses, and c.
 #[tactic(auto, unfolding(ve_theory::specs::Validity::is_name))]
 fn add_letters(p: &mut Presentation) -> [Result<u8, NameFault>; 7]
     requires { IsOpen p.old }
     ensures { IsOpen p.new }
 {
     [
+        p.add_pair("x", "X"),
+        p.add_pair("y", "x"),
         p.add_involution("a"),
         p.add_involution("b"),
-        p.add_pair("y", "b"),
-        p.add_pair("x", "X"),
         p.add_letter("c"),
         p.add_letter("e1"),
         p.add_pair("z", "z"),
@@ -31,9 +31,9 @@ fn add_letters(p: &mut Presentation) -> [Result<u8, NameFault>; 7]
 
 const ANSWERS: [Result<u8, NameFault>; 7] = [
     Ok(0),
-    Ok(1),
-    Err(NameFault::Taken(1)),
+    Err(NameFault::Taken(0)),
     Ok(2),
+    Ok(3),
     Ok(4),
     Err(NameFault::Rooted),
     Err(NameFault::Taken(5)),
@@ -75,29 +75,29 @@ fn balanced(alloc: Global, field: Field) -> Presentation {
     p
 }
 
-const BRAID: Terms = &[(1, &[0, 1, 0, 1, 0, 1]), (2, &[])];
+const BRAID: Terms = &[(1, &[2, 3, 2, 3, 2, 3]), (2, &[])];
 
-const HALF_BRAID: Terms = &[(2, &[1, 0, 1]), (1, &[0, 1, 0])];
+const HALF_BRAID: Terms = &[(2, &[3, 2, 3]), (1, &[2, 3, 2])];
 
 // Relations modulo 3 with their halves.
 const HALVES: [(Terms, Terms); 9] = [
     (BRAID, HALF_BRAID),
     (HALF_BRAID, HALF_BRAID),
-    (&[(1, &[2, 2, 2]), (2, &[])], &[(1, &[2, 2]), (2, &[3])]),
-    (&[(1, &[4, 2, 0]), (1, &[1])], &[(1, &[4, 2]), (1, &[1, 0])]),
+    (&[(1, &[0, 0, 0]), (2, &[])], &[(1, &[0, 0]), (2, &[1])]),
+    (&[(1, &[4, 0, 2]), (1, &[3])], &[(1, &[4, 0]), (1, &[3, 2])]),
     // The letters that change sides stand in reversed order.
     (
-        &[(1, &[4, 4, 2, 0]), (2, &[])],
-        &[(1, &[4, 4]), (2, &[0, 3])],
+        &[(1, &[4, 4, 0, 2]), (2, &[])],
+        &[(1, &[4, 4]), (2, &[2, 1])],
     ),
     // Both words of the half are equal.
-    (&[(1, &[0, 0]), (1, &[])], &[(2, &[0])]),
-    (&[(1, &[0, 0]), (2, &[])], ZERO),
+    (&[(1, &[2, 2]), (1, &[])], &[(2, &[2])]),
+    (&[(1, &[2, 2]), (2, &[])], ZERO),
     // There is no half: c has no inverse, and three terms are no relation between two words.
-    (&[(1, &[0, 4]), (2, &[])], &[(1, &[0, 4]), (2, &[])]),
+    (&[(1, &[2, 4]), (2, &[])], &[(1, &[2, 4]), (2, &[])]),
     (
-        &[(1, &[0, 0]), (1, &[0]), (2, &[])],
-        &[(1, &[0, 0]), (1, &[0]), (2, &[])],
+        &[(1, &[2, 2]), (1, &[2]), (2, &[])],
+        &[(1, &[2, 2]), (1, &[2]), (2, &[])],
     ),
 ];
 
@@ -156,19 +156,19 @@ fn cosets(alloc: Global, field: Field) -> Result<Presentation, PresFault> {
     let mut p = balanced(alloc, field);
     relate(alloc, &mut p, (ZERO, 1, 0))?;
     relate(alloc, &mut p, (BRAID, 1, 0))?;
-    relate(alloc, &mut p, (&[(1, &[0, 0]), (2, &[])], 1, 0))?;
-    relate_in_module(alloc, &mut p, (&[(1, &[0]), (2, &[])], 1, 0))?;
+    relate(alloc, &mut p, (&[(1, &[2, 2]), (2, &[])], 1, 0))?;
+    relate_in_module(alloc, &mut p, (&[(1, &[2]), (2, &[])], 1, 0))?;
     relate_in_module(alloc, &mut p, (ZERO, 1, 0))?;
     Ok(p)
 }
 
 fn are_cosets(p: &Presentation) -> bool {
     p.relator_count() == 5
-        && is(p.relator(0), &[(1, &[0, 0]), (2, &[])])
-        && is(p.relator(2), &[(1, &[2, 3]), (2, &[])])
+        && is(p.relator(0), &[(1, &[0, 1]), (2, &[])])
+        && is(p.relator(2), &[(1, &[2, 2]), (2, &[])])
         && is(p.relator(4), HALF_BRAID)
         && p.sub_count() == 1
-        && is_in_module(p.sub(0), &[(1, &[0]), (2, &[])])
+        && is_in_module(p.sub(0), &[(1, &[2]), (2, &[])])
         && (p.d(), p.m()) == (3, 1)
 }
 
