@@ -33,12 +33,12 @@ left_all Z P (Some t) u v moved same all = (taken_all P t u v moved all).1
 left_all Z P None u v moved same all = rw same.0 all
 
 -- two terms of one key become one
-pub merged : (p i a b c : ℕ) (u v w : Combination ℕ) → SameWeights p u ((i, a) ∷ v) → IsPermutation v ((i, b) ∷ w) → c ≡ (a + b) % p → SameWeights p u ((i, c) ∷ w)
+pub merged : (p i a b c : ℕ) (u v w : Combination ℕ) → SameWeights p u ((i, a) ∷ v) → SameWeights p v ((i, b) ∷ w) → c ≡ (a + b) % p → SameWeights p u ((i, c) ∷ w)
 unfolding weigh
-merged p i a b c u v w same moved c_is = record {
+merged p i a b c u v w same taken c_is = record {
   at = λ h.
       let whole : (a * h i + weigh h v) % p ≡ (a * h i + (b * h i + weigh h w)) % p =
-      congruent-add p (a * h i) (a * h i) (weigh h v) (b * h i + weigh h w) refl ((SameWeights-permutation p v ((i, b) ∷ w) moved).at h) in
+      congruent-add p (a * h i) (a * h i) (weigh h v) (b * h i + weigh h w) refl (taken.at h) in
       let joined : a * h i + (b * h i + weigh h w) ≡ (a + b) * h i + weigh h w = omega arith in
       let sum_is : (a + b) % p ≡ c % p = sym (mod-mod (a + b) p) ∙ ap (λ n. n % p) (sym c_is) in
       same.at h ∙ whole ∙ ap (λ n. n % p) joined

@@ -1,4 +1,5 @@
 pub mod Heaps
+pub mod SortedTerms
 pub mod Vectors
 pub mod Derived
 pub mod Deleting

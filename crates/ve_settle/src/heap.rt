@@ -9,7 +9,7 @@ ghost use Rattle.ve_vec.specs.Vectors.{AllIds};
 use std::alloc::Global;
 use std::collections::BinaryHeap;
 use ve_field::Field;
-use ve_vec::{Sparse, Term};
+use ve_vec::Sparse;
 use ve_word::Memory;
 
 /// A sum of terms that stand in no order, but for the greatest id, which is found at once. An id may stand in many of them.
@@ -53,25 +53,18 @@ impl TermHeap {
         Ok(())
     }
 
-    /// Takes all terms of the greatest id away, and answers their sum.
-    pub(crate) fn pop(&mut self) -> Option<Term>
-        ensures field { self.new.field ≡ self.old.field }
-        ensures none { IfNone result (heap_items self.old.terms ≡ []) }
-        ensures residue { IfSome result (λ t. t.coef < self.old.field) }
-        ensures sum { IfSome result (λ t. Alike nat_eq self.old.field (heap_items self.old.terms) ((t.id, t.coef) ∷ heap_items self.new.terms)) }
-        ensures falls { IfSome result (λ t. All (λ s. s.0 < t.id) (heap_items self.new.terms)) }
-        ensures ids { IfSome result (λ t. (among : ℕ → Bool) → AllIds among (heap_items self.old.terms)
-            → IsTrue (among t.id) × AllIds among (heap_items self.new.terms)) }
+    /// The greatest id, or `None` where there is no term.
+    pub(crate) fn greatest(&self) -> Option<u32>
+        ensures none { IfNone result (heap_items self.now.terms ≡ []) }
+        ensures upper { IfSome result (λ id. All (λ t. t.0 ≤ id) (heap_items self.now.terms)) }
+        ensures ids { IfSome result (λ id. (among : ℕ → Bool) → AllIds among (heap_items self.now.terms) → IsTrue (among id)) }
     {
-        let (id, mut coef) = self.terms.pop()?;
-        while let Some(further) = self.pop_at(id) {
-            coef = self.field.add(coef, further);
-        }
-        Some(Term { id, coef })
+        let (id, _) = self.terms.peek()?;
+        Some(*id)
     }
 
-    /// Takes one more term of an id that no other is above, where there is one.
-    fn pop_at(&mut self, id: u32) -> Option<u8>
+    /// Takes one term of an id that no other is above, where there is one.
+    pub(crate) fn pop_at(&mut self, id: u32) -> Option<u8>
         requires { All (λ t. t.0 ≤ id) (heap_items self.old.terms) }
         ensures field { self.new.field ≡ self.old.field }
         ensures residue { IfSome result (λ c. c < self.old.field) }

@@ -2,6 +2,7 @@
 #![tactic(auto)]
 
 mod deletion;
+mod falling;
 mod heap;
 mod image;
 mod live;

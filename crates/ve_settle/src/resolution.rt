@@ -5,7 +5,7 @@ ghost use Rattle.ve_theory.specs.Derivations.{DerivedWithin};
 ghost use Rattle.ve_table.specs.Tables.{element_of, presented};
 ghost use Rattle.ve_settle.specs.Settling.{IsResolved, ResolutionsAreUnique};
 
-use crate::heap::TermHeap;
+use crate::falling::FallingSum;
 use crate::live::has_live_ids;
 use crate::sound::table_is_sound;
 use crate::terms::add_term;
@@ -41,7 +41,7 @@ fn resolve_by_falling_ids(alloc: Global, table: &Table, vector: &Sparse) -> Resu
     ensures ids { IfOk result (λ v. (bound : ℕ) → All (λ t. t.0 ≤ bound) vector.now → All (λ t. t.0 ≤ bound) v) }
 {
     let field = *table.presentation().field();
-    let mut left = TermHeap::new(alloc, field);
+    let mut left = FallingSum::new(alloc, field);
     left.push_scaled(1, vector)?;
     let mut resolved = Sparse::zero(alloc);
     while let Some(term) = left.pop() {

@@ -68,6 +68,41 @@ const FIVE: [Step; 19] = [
     Step::Resolve(&[(4, 1), (3, 1), (2, 1), (1, 1), (0, 1)], &[(1, 3)]),
 ];
 
+// Modulo 5 on the words from e1 to e1 times nine x. Forwards of six terms, where all but the last come to have dead ids.
+const WIDE: [Step; 9] = [
+    Step::Delete(
+        &[(9, 1), (8, 4), (7, 2), (6, 1), (5, 3), (4, 2), (3, 4)],
+        Some(9),
+        &[(8, 1), (7, 3), (6, 4), (5, 2), (4, 3), (3, 1)],
+    ),
+    Step::Resolve(
+        &[(9, 2), (7, 1), (0, 3)],
+        &[(8, 2), (7, 2), (6, 3), (5, 4), (4, 1), (3, 2), (0, 3)],
+    ),
+    Step::Delete(
+        &[(8, 3), (7, 1), (5, 2), (4, 4), (2, 1), (1, 3), (0, 2)],
+        Some(8),
+        &[(7, 3), (5, 1), (4, 2), (2, 3), (1, 4), (0, 1)],
+    ),
+    Step::Delete(
+        &[(7, 2), (6, 4), (5, 1), (4, 3), (3, 1), (1, 2), (0, 4)],
+        Some(7),
+        &[(6, 3), (5, 2), (4, 1), (3, 2), (1, 4), (0, 3)],
+    ),
+    // A forward of two terms beside the wide ones.
+    Step::Delete(&[(6, 1), (5, 2), (0, 4)], Some(6), &[(5, 3), (0, 1)]),
+    Step::Resolve(&[(9, 1)], &[(5, 1), (4, 1), (3, 3), (2, 3), (1, 3), (0, 1)]),
+    Step::Resolve(&[(9, 3), (8, 1), (6, 2)], &[(5, 3), (4, 3), (2, 2), (0, 4)]),
+    Step::Resolve(
+        &[(9, 1), (8, 2), (7, 3), (6, 4), (5, 1), (4, 2), (3, 3)],
+        &[(4, 1), (3, 4), (2, 4), (1, 2), (0, 1)],
+    ),
+    Step::Resolve(
+        &[(9, 1), (5, 4), (4, 4), (3, 2), (2, 2), (1, 2), (0, 4)],
+        &[],
+    ),
+];
+
 #[test]
 fn two_cycle(rt: HostRuntime) -> Result<(), Fail> {
     let mut table = table_of(rt.alloc(), 2, 2)?;
@@ -81,6 +116,15 @@ fn two_cycle(rt: HostRuntime) -> Result<(), Fail> {
 fn five(rt: HostRuntime) -> Result<(), Fail> {
     let mut table = table_of(rt.alloc(), 5, 4)?;
     for (at, step) in FIVE.iter().enumerate() {
+        assert!(rt; passes(rt.alloc(), &mut table, step)?, "at {at}");
+    }
+    Ok(())
+}
+
+#[test]
+fn wide(rt: HostRuntime) -> Result<(), Fail> {
+    let mut table = table_of(rt.alloc(), 5, 9)?;
+    for (at, step) in WIDE.iter().enumerate() {
         assert!(rt; passes(rt.alloc(), &mut table, step)?, "at {at}");
     }
     Ok(())

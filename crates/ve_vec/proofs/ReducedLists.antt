@@ -1,5 +1,6 @@
 -- Lists of keys and coefficients whose keys fall, as they are taken apart and put together.
-use Rattle.std.proofs.Common.{ℕ, ◌<◌, ◌≤◌, [], ◌∷◌, ◌++◌, arith}
+use Rattle.std.proofs.Common.{ℕ, ◌<◌, ◌≤◌, [], ◌∷◌, ◌++◌, take, drop, sym, subst, arith}
+use Rattle.std.proofs.lemmas.List.{take-append-drop}
 use Rattle.ve_theory.specs.Combinations.{Combination, AllBefore, IsReduced}
 
 pub AllBefore-higher : (j k : ℕ) (v : Combination ℕ) → j ≤ k → AllBefore ◌<◌ j v → AllBefore ◌<◌ k v
@@ -44,6 +45,9 @@ pub IsReduced-back : (p : ℕ) (m r : Combination ℕ) → IsReduced ◌<◌ p (
 unfolding IsReduced
 IsReduced-back p [] r reduced = reduced
 IsReduced-back p (t ∷ m) r reduced = IsReduced-back p m r reduced.3
+
+pub IsReduced-drop : (p n : ℕ) (v : Combination ℕ) → IsReduced ◌<◌ p v → IsReduced ◌<◌ p (drop n v)
+IsReduced-drop p n v reduced = IsReduced-back p (take n v) (drop n v) (subst (IsReduced ◌<◌ p) (sym (take-append-drop n v)) reduced)
 
 -- a term in the middle
 pub record IsMiddle (p : ℕ) (x : ℕ × ℕ) (l : Combination ℕ) : Type 0 where

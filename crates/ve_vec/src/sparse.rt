@@ -1,4 +1,4 @@
-ghost use Rattle.std.specs.Prelude.{◌≡◌, ℕ, ◌<◌, ◌≤◌, ◌↔◌, Bool, [], ◌∷◌, ◌++◌, IsTrue, IfSome, IsNone, IfOk, OnOk, OnErr, All, length, map, nat_eq, slice_get};
+ghost use Rattle.std.specs.Prelude.{◌≡◌, ℕ, ◌<◌, ◌≤◌, ◌↔◌, Bool, [], ◌∷◌, ◌++◌, IsTrue, IfSome, IsNone, IfOk, OnOk, OnErr, All, drop, length, map, nat_eq, slice_get};
 ghost use Rattle.ve_theory.specs.Combinations.{unit, scaled, coefficient, AllBefore, IsReduced, IsReducedOf};
 ghost use Rattle.ve_vec.specs.Vectors.{AllIds, IsVector, numbered, without};
 
@@ -128,6 +128,15 @@ impl Sparse {
         ensures { IfOk result (λ v. v ≡ self.now) }
     {
         let terms = SmallVec::from_slice(*self.terms.allocator(), self.terms.as_slice())?;
+        Ok(Sparse { terms })
+    }
+
+    /// The terms from a place on, as a vector of their own.
+    pub fn rest(&self, from: usize) -> Result<Sparse, Memory>
+        requires { from ≤ length self.now }
+        ensures { IfOk result (λ v. v ≡ drop from self.now) }
+    {
+        let terms = SmallVec::from_slice(*self.terms.allocator(), &self.terms.as_slice()[from..])?;
         Ok(Sparse { terms })
     }
 

@@ -142,6 +142,27 @@ fn takes_leading_terms(rt: HostRuntime) -> Result<(), Fail> {
     Ok(())
 }
 
+#[test]
+fn keeps_the_rest(rt: HostRuntime) -> Result<(), Fail> {
+    let alloc = rt.alloc();
+    let Some(field) = Field::new(5) else {
+        panic!(rt; "5 is a prime");
+    };
+    let v = ladder(alloc, &field, 6)?;
+    let places: [usize; 3] = [0, 3, 6];
+    for from in places {
+        if from > v.len() {
+            panic!(rt; "the vector has 6 terms");
+        }
+        let rest = v.rest(from)?;
+        assert_eq!(rt; rest.len(), v.len() - from);
+        for at in 0..rest.len() {
+            assert_eq!(rt; rest.term(at), v.term(from + at));
+        }
+    }
+    Ok(())
+}
+
 /// A unit whose id gets its number.
 fn numbered_unit(alloc: Global, id: u32, numbers: &[u32]) -> Sparse
     requires { id < length numbers.now }

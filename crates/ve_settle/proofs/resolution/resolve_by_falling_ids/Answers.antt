@@ -1,6 +1,5 @@
 use Rattle.std.proofs.Common.{◌≡◌, ℕ, ◌<◌, ltb, Some, ◌∷◌, ◌++◌, nat_eq, length, IsTrue, ap, ◌∙◌}
 use Rattle.std.specs.Prelude.{slice_get}
-use Rattle.std.specs.BinaryHeap.{heap_items}
 use Rattle.std.proofs.lemmas.Bool.{ltb-true}
 use Rattle.std.proofs.lemmas.List.Elements.{All-nil, All-append}
 use Rattle.ve_theory.specs.Combinations.{unit, scaled, IsReducedOf}
@@ -8,6 +7,7 @@ use Rattle.ve_theory.proofs.Sums.{prime-large, SameWeights, SameWeights-sym, Sam
 use Rattle.ve_theory.proofs.Members.{All-scaled}
 use Rattle.ve_theory.proofs.Remainders.{All-unit}
 use Rattle.ve_table.specs.Tables.{presented, IsLive}
+use Rattle.ve_settle.specs.Falling.{left_of}
 use Rattle.ve_settle.proofs.Vectors.{reduced_keys, reduced_same}
 use Rattle.ve_settle.proofs.Forwards.{dead_stands, positive_prime}
 use Rattle.ve_settle.proofs.Forwarding.{done_dead, done_live, nothing_forwarded}
@@ -25,14 +25,14 @@ loop-term-init c =
     let sound = c.presentation.ensures.sound in
     let p : ℕ = (presented c.args.table.now).prime in
     let field_is : c.new-left.result.field ≡ p = c.new-left.ensures.field ∙ same in
-    let pushed : SameWeights p (heap_items c.push_scaled.new.self.terms) (scaled 1 c.args.vector.now) =
+    let pushed : SameWeights p (left_of c.push_scaled.new.self) (scaled 1 c.args.vector.now) =
     weights_from_Alike nat_eq Decides-nat_eq p _ _ (rw (field_is, c.new-left.ensures.empty) at c.in_ok-push_scaled.ensures.sum) in
     record {
       field = c.in_ok-push_scaled.ensures.field ∙ field_is;
       reduced = c.zero-resolved.ensures.fits p;
       live = rw c.zero-resolved.ensures.value (All-nil (λ (t : ℕ × ℕ). IsLive c.args.table.now t.0));
       forwarding = nothing_forwarded c.args.table.now c.args.vector.now _ (positive_prime c.args.table.now sound)
-          (SameWeights-sym (SameWeights-trans (SameWeights_of (ap (λ w. w ++ heap_items c.push_scaled.new.self.terms) c.zero-resolved.ensures.value)) (SameWeights-trans pushed (scaled-one p c.args.vector.now))));
+          (SameWeights-sym (SameWeights-trans (SameWeights_of (ap (λ w. w ++ left_of c.push_scaled.new.self) c.zero-resolved.ensures.value)) (SameWeights-trans pushed (scaled-one p c.args.vector.now))));
       ids = λ among kept all. (
         rw c.zero-resolved.ensures.value (All-nil (λ (t : ℕ × ℕ). IsTrue (among t.0))),
         c.in_ok-push_scaled.ensures.ids among (rw c.new-left.ensures.empty (All-nil (λ (t : ℕ × ℕ). IsTrue (among t.0)))) all,
@@ -61,11 +61,11 @@ loop-term-smaller-in-Continue-branch-2 c =
 pub loop-term-preserved-in-Continue-branch-2 : goal.loop-term-preserved-in-Continue-branch-2
 loop-term-preserved-in-Continue-branch-2 c =
     let p : ℕ = (presented c.args.table.now).prime in
-    let left_is : SameWeights p (heap_items c.loop-term.left.terms) ((c.in-Some.term.id, c.in-Some.term.coef) ∷ heap_items c.pop.new.self.terms) =
+    let left_is : SameWeights p (left_of c.loop-term.left) ((c.in-Some.term.id, c.in-Some.term.coef) ∷ left_of c.pop.new.self) =
     weights_from_Alike nat_eq Decides-nat_eq p _ _ (rw c.loop-term.invariant.field at c.in-Some.ensures.sum) in
     let dead_is : slice_get c.args.table.now.forwards c.in-Some.term.id ≡ Some (Some c.in-Some-forward.forward.now) = c.in-Some-forward.ensures in
     let field_is : c.pop.new.self.field ≡ p = c.in-Some.ensures.field ∙ c.loop-term.invariant.field in
-    let new_is : SameWeights p (heap_items c.push_scaled-in-Some-forward.new.self.terms) (heap_items c.pop.new.self.terms ++ scaled c.in-Some.term.coef c.in-Some-forward.forward.now) =
+    let new_is : SameWeights p (left_of c.push_scaled-in-Some-forward.new.self) (left_of c.pop.new.self ++ scaled c.in-Some.term.coef c.in-Some-forward.forward.now) =
     weights_from_Alike nat_eq Decides-nat_eq p _ _ (rw field_is at c.in_ok-push_scaled-in-Some-forward.ensures.sum) in
     record {
       field = c.in_ok-push_scaled-in-Some-forward.ensures.field ∙ field_is;
@@ -91,7 +91,7 @@ pub loop-term-preserved : goal.loop-term-preserved
 loop-term-preserved c =
     let same : c.field.result.now ≡ (presented c.args.table.now).prime = c.field.ensures.field ∙ ap (λ d. d.presentation.prime) c.presentation.ensures.value in
     let p : ℕ = (presented c.args.table.now).prime in
-    let left_is : SameWeights p (heap_items c.loop-term.left.terms) ((c.in-Some.term.id, c.in-Some.term.coef) ∷ heap_items c.pop.new.self.terms) =
+    let left_is : SameWeights p (left_of c.loop-term.left) ((c.in-Some.term.id, c.in-Some.term.coef) ∷ left_of c.pop.new.self) =
     weights_from_Alike nat_eq Decides-nat_eq p _ _ (rw c.loop-term.invariant.field at c.in-Some.ensures.sum) in
     let sum : IsReducedOf ◌<◌ nat_eq p c.add_term.new.sum (c.loop-term.resolved ++ scaled c.in-Some.term.coef (unit c.in-Some.term.id)) = rw same at c.in_ok-add_term-in-None.ensures in
     record {

@@ -1,6 +1,5 @@
-use Rattle.std.proofs.Common.{rules, ◌≡◌, None, Some, [], List, map, All, refl, ap, sym, subst, ◌∙◌}
+use Rattle.std.proofs.Common.{◌≡◌, None, List, map, All, refl, ap, ◌∙◌}
 use Rattle.std.specs.Prelude.{Option, slice_get}
-use Rattle.std.specs.List.{range_with_len}
 use Rattle.std.proofs.lemmas.List.Elements.{All-append, All-map}
 use Rattle.ve_theory.specs.Presentations.{relators}
 use Rattle.ve_theory.specs.Answers.{Row}

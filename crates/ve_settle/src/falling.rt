@@ -1,0 +1,124 @@
+ghost use Rattle.std.specs.Prelude.{◌≡◌, ℕ, ◌<◌, ◌≤◌, ◌∷◌, ◌++◌, [], All, Bool, IfNone, IfSome, IsTrue, OnOk, drop, length, nat_eq};
+ghost use Rattle.ve_theory.specs.Combinations.{scaled, Alike, IsReduced};
+ghost use Rattle.ve_vec.specs.Vectors.{AllIds};
+ghost use Rattle.ve_settle.specs.Reduced.{IsReduced-prop};
+
+use crate::heap::TermHeap;
+use std::alloc::Global;
+use ve_field::Field;
+use ve_vec::{Sparse, Term};
+use ve_word::Memory;
+
+// Vectors of up to this many terms are kept loose, since a merge goes over all sorted terms.
+const SHORT: usize = 4;
+
+// So are those that are more than this many times shorter than what is left of the sorted one.
+const MUCH_SHORTER: usize = 32;
+
+/// A sum whose terms are taken by falling id. Short vectors are kept loose in a heap, and wide ones are merged in order.
+#[derive(Drop)]
+pub(crate) struct FallingSum {
+    field: Field,
+    // The terms from the place `taken` on are left of this vector.
+    sorted: Sparse,
+    taken: usize,
+    loose: TermHeap,
+    ghost reduced: { IsReduced ◌<◌ field sorted } by { IsReduced-prop field sorted },
+    ghost within: { taken ≤ length sorted },
+    ghost same: { loose.field ≡ field },
+}
+
+impl FallingSum {
+    ghost use Rattle.ve_settle.specs.Falling.{left_of};
+
+    /// The empty sum.
+    pub(crate) fn new(alloc: Global, field: Field) -> FallingSum
+        ensures field { result.field ≡ field }
+        ensures empty { left_of result ≡ [] }
+    {
+        FallingSum {
+            field,
+            sorted: Sparse::zero(alloc),
+            taken: 0,
+            loose: TermHeap::new(alloc, field),
+        }
+    }
+
+    /// Adds `by` times the vector.
+    pub(crate) fn push_scaled(&mut self, by: u8, vector: &Sparse) -> Result<(), Memory>
+        requires fits { IsReduced ◌<◌ self.old.field vector.now }
+        requires residue { by < self.old.field }
+        ensures field { self.new.field ≡ self.old.field }
+        ensures sum { OnOk result (Alike nat_eq self.old.field (left_of self.new) (left_of self.old ++ scaled by vector.now)) }
+        ensures ids { OnOk result ((among : ℕ → Bool) → AllIds among (left_of self.old) → AllIds among vector.now
+            → AllIds among (left_of self.new)) }
+    {
+        let left = self.sorted.len() - self.taken;
+        if vector.len() <= SHORT || vector.len() < left / MUCH_SHORTER {
+            self.loose.push_scaled(by, vector)?;
+            return Ok(());
+        }
+        let mut sorted = self.sorted.rest(self.taken)?;
+        sorted.add_scaled(&self.field, by, vector)?;
+        self.taken = 0;
+        self.sorted = sorted;
+        Ok(())
+    }
+
+    /// Takes all terms of the greatest id away, and answers their sum.
+    pub(crate) fn pop(&mut self) -> Option<Term>
+        ensures field { self.new.field ≡ self.old.field }
+        ensures none { IfNone result (left_of self.old ≡ []) }
+        ensures residue { IfSome result (λ t. t.coef < self.old.field) }
+        ensures sum { IfSome result (λ t. Alike nat_eq self.old.field (left_of self.old) ((t.id, t.coef) ∷ left_of self.new)) }
+        ensures falls { IfSome result (λ t. All (λ s. s.0 < t.id) (left_of self.new)) }
+        ensures ids { IfSome result (λ t. (among : ℕ → Bool) → AllIds among (left_of self.old)
+            → IsTrue (among t.id) × AllIds among (left_of self.new)) }
+    {
+        let id = self.greatest()?;
+        let mut coef = self.take_sorted(id);
+        while let Some(further) = self.loose.pop_at(id) {
+            coef = self.field.add(coef, further);
+        }
+        Some(Term { id, coef })
+    }
+
+    /// The greatest id, or `None` where no term is left.
+    fn greatest(&self) -> Option<u32>
+        ensures none { IfNone result (left_of self.now ≡ []) }
+        ensures upper { IfSome result (λ id. All (λ t. t.0 ≤ id) (left_of self.now)) }
+        ensures ids { IfSome result (λ id. (among : ℕ → Bool) → AllIds among (left_of self.now) → IsTrue (among id)) }
+    {
+        let loose = self.loose.greatest();
+        if self.taken == self.sorted.len() {
+            return loose;
+        }
+        let next = self.sorted.term(self.taken).id;
+        match loose {
+            Some(id) => Some(id.max(next)),
+            None => Some(next),
+        }
+    }
+
+    /// Takes the sorted term of an id that no other is above, and answers its coefficient, which is 0 where there is no such term.
+    fn take_sorted(&mut self, id: u32) -> u8
+        requires { All (λ t. t.0 ≤ id) (left_of self.old) }
+        ensures field { self.new.field ≡ self.old.field }
+        ensures loose { self.new.loose ≡ self.old.loose }
+        ensures residue { result < self.old.field }
+        ensures sum { Alike nat_eq self.old.field (left_of self.old) ((id, result) ∷ left_of self.new) }
+        ensures below { All (λ t. t.0 < id) (drop self.new.taken self.new.sorted) }
+        ensures ids { (among : ℕ → Bool) → AllIds among (left_of self.old) → AllIds among (left_of self.new) }
+    {
+        let _prime = self.field.prime();
+        if self.taken == self.sorted.len() {
+            return 0;
+        }
+        let next = self.sorted.term(self.taken);
+        if next.id != id {
+            return 0;
+        }
+        self.taken += 1;
+        next.coef
+    }
+}
