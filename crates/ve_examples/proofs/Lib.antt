@@ -10,3 +10,6 @@ pub mod ZeroModuleLevels
 pub mod TiedGeneratorsLevels
 pub mod ProportionalGeneratorsLevels
 pub mod WeightedPairLevels
+pub mod Endings
+pub mod VerdictTests
+pub mod InverseTests

@@ -1,15 +1,16 @@
--- A test of presentations without inverses and balance: that they are valid.
-use Rattle.std.proofs.Common.{◌≡◌, ◌≢◌, ℕ, zero, suc, ◌+◌, ◌<◌, ◌≤◌, ◌⊎◌, inl, inr, Bool, true, false, not, ◌&&◌, ◌||◌, nat_eq, nat_lt, nat_le, List, [], ◌∷◌, length, Option, Some, None, slice_get, get_or, All, IsTrue, IsFalse, sym, ◌∙◌, subst}
+-- A test of presentations that say nothing of balance: that they are valid.
+use Rattle.std.proofs.Common.{◌≡◌, ◌≢◌, ℕ, ◌+◌, ◌<◌, ◌≤◌, ◌⊎◌, inl, inr, Bool, true, false, not, ◌&&◌, ◌||◌, nat_eq, nat_lt, nat_le, List, [], ◌∷◌, length, Option, Some, None, slice_get, get_or, All, IsTrue, IsFalse, sym, ap, ◌∙◌, subst}
 use Rattle.std.specs.List.{list_all, list_any}
 use Rattle.std.proofs.lemmas.Bool.{and_parts, or_cases, not-true, true≢false, eqb-true, eq-eqb, ltb-true, leb-true}
 use Rattle.std.proofs.lemmas.List.Folds.{Any-from_list_any}
+use Rattle.std.proofs.lemmas.Option.{slice_get_within}
 use Rattle.ve_theory.specs.Residues.{primes, IsFieldPrime}
 use Rattle.ve_theory.specs.Combinations.{IsReduced}
 use Rattle.ve_theory.specs.Words.{Word, start, letters, Shortlex, ShortlexLetters, same_letters}
 use Rattle.ve_theory.specs.Elements.{AlgebraElement, Element, algebra_length, element_length}
 use Rattle.ve_theory.specs.Presentations.{Presentation, letter_count, HasLetters, IsWord, IsPresentation}
-use Rattle.ve_theory.specs.Validity.{most_letters, most_generators, most_relations, most_terms, most_length, most_cells, is_name, is_rooted, cells, IsValid}
-use Rattle.ve_examples.proofs.ListTests.{every, Every, every-true, implies, implies-at, All-from_test, all_pairs, AllPairs-from_test}
+use Rattle.ve_theory.specs.Validity.{most_letters, most_generators, most_relations, most_terms, most_length, most_cells, is_name, is_rooted, cells, AreBeside, IsValid}
+use Rattle.ve_examples.proofs.ListTests.{every, Every, every-true, all_below, all_below-at, implies, implies-at, All-from_test, all_pairs, AllPairs-from_test}
 use Rattle.ve_examples.proofs.OrderTests.{same_letters-itself, is_shortlex, is_shortlex-true, is_shortlex_letters, is_shortlex_letters-true, is_reduced, is_reduced-true}
 
 -- words
@@ -62,17 +63,48 @@ is_submodule_relation-true P q e =
       is_empty-fails q rest.1,
     )
 
--- no letter has an inverse
+-- inverses are mutual, and declared side by side
 
-abbrev has_none : Option ℕ → Bool
-has_none None = true
-has_none (Some y) = false
+abbrev is_inverse : ℕ → Option (Option ℕ) → Bool
+is_inverse x (Some (Some y)) = nat_eq y x
+is_inverse x (Some None) = false
+is_inverse x None = false
 
-inverseless : (inverses : List (Option ℕ)) → list_all has_none inverses ≡ true → (x y : ℕ) → slice_get inverses x ≡ Some (Some y) → ⊥
-inverseless [] e x y h = cc
-inverseless (None ∷ rest) e zero y h = cc
-inverseless (None ∷ rest) e (suc x) y h = inverseless rest e x y h
-inverseless (Some z ∷ rest) e x y h = absurd (cc)
+is_inverse-true : (x : ℕ) (o : Option (Option ℕ)) → is_inverse x o ≡ true → o ≡ Some (Some x)
+is_inverse-true x (Some (Some y)) e = ap (λ n. Some (Some n)) (eqb-true y x e)
+is_inverse-true x (Some None) e = absurd (cc)
+is_inverse-true x None e = absurd (cc)
+
+abbrev are_beside : ℕ → ℕ → Bool
+are_beside x y = nat_eq x y || (nat_eq y (x + 1) || nat_eq x (y + 1))
+
+are_beside-true : (x y : ℕ) → are_beside x y ≡ true → AreBeside x y
+are_beside-true x y e = first (or_cases (nat_eq x y) (nat_eq y (x + 1) || nat_eq x (y + 1)) e)
+  where
+    second : (nat_eq y (x + 1) ≡ true) ⊎ (nat_eq x (y + 1) ≡ true) → (x ≡ y) ⊎ (y ≡ x + 1) ⊎ (x ≡ y + 1)
+    second (inl h) = inr (inl (eqb-true y (x + 1) h))
+    second (inr h) = inr (inr (eqb-true x (y + 1) h))
+
+    first : (nat_eq x y ≡ true) ⊎ ((nat_eq y (x + 1) || nat_eq x (y + 1)) ≡ true) → (x ≡ y) ⊎ (y ≡ x + 1) ⊎ (x ≡ y + 1)
+    first (inl h) = inl (eqb-true x y h)
+    first (inr h) = second (or_cases (nat_eq y (x + 1)) (nat_eq x (y + 1)) h)
+
+abbrev inverse_passes : List (Option ℕ) → ℕ → Option (Option ℕ) → Bool
+inverse_passes inverses x (Some (Some y)) = is_inverse x (slice_get inverses y) && are_beside x y
+inverse_passes inverses x (Some None) = true
+inverse_passes inverses x None = true
+
+abbrev inverses_pass : List (Option ℕ) → Bool
+inverses_pass inverses = all_below (length inverses) (λ x. inverse_passes inverses x (slice_get inverses x))
+
+inverses_pass-true : (inverses : List (Option ℕ)) → inverses_pass inverses ≡ true → (x y : ℕ) → slice_get inverses x ≡ Some (Some y)
+    → (slice_get inverses y ≡ Some (Some x)) × AreBeside x y
+inverses_pass-true inverses e x y here =
+    let found : inverse_passes inverses x (Some (Some y)) ≡ true =
+    subst (λ o. inverse_passes inverses x o ≡ true) here
+    (all_below-at (length inverses) (λ x. inverse_passes inverses x (slice_get inverses x)) e x (slice_get_within inverses x (Some y) here)) in
+    let parts = and_parts (is_inverse x (slice_get inverses y)) (are_beside x y) found in
+    (is_inverse-true x (slice_get inverses y) parts.0, are_beside-true x y parts.1)
 
 -- primes
 
@@ -92,18 +124,18 @@ presentation_tests P =
     ∷ nat_eq (length P.inverses) (letter_count P)
     ∷ nat_eq (length P.weights) (letter_count P)
     ∷ list_all (λ w. nat_lt 0 w && nat_le w 16) P.weights
-    ∷ list_all has_none P.inverses
+    ∷ inverses_pass P.inverses
     ∷ list_all (is_relation P) P.relations
     ∷ list_all (is_submodule_relation P) P.submodule
     ∷ []
 
 IsPresentation-from_tests : (P : Presentation) → Every (presentation_tests P) → IsPresentation P
-IsPresentation-from_tests P (prime, (inverses, (weights, (each_weight, (none, (relations, (submodule, _))))))) = record {
+IsPresentation-from_tests P (prime, (inverses, (weights, (each_weight, (inverted, (relations, (submodule, _))))))) = record {
   field = is_prime-true P.prime prime;
   one_inverse_each = eqb-true (length P.inverses) (letter_count P) inverses;
   one_weight_each = eqb-true (length P.weights) (letter_count P) weights;
   weights = All-from_test (λ w. (0 < w) × (w ≤ 16)) (λ w. nat_lt 0 w && nat_le w 16) bounds P.weights each_weight;
-  inverses = λ x y h. absurd (inverseless P.inverses none x y h);
+  inverses = λ x y h. (inverses_pass-true P.inverses inverted x y h).0;
   relations = All-from_test (λ r. IsReduced ShortlexLetters P.prime r × All (λ t. HasLetters P t.0) r × (r ≢ [])) (is_relation P) (is_relation-true P) P.relations relations;
   submodule = All-from_test (λ q. IsReduced Shortlex P.prime q × All (λ t. IsWord P t.0) q × (q ≢ [])) (is_submodule_relation P) (is_submodule_relation-true P) P.submodule submodule;
 }
@@ -144,6 +176,13 @@ is_small-true size v e =
 abbrev valid_tests : Presentation → List Bool
 valid_tests P = every (presentation_tests P) ∷ every (text_tests P) ∷ every (limit_tests P) ∷ []
 
+unfoldable pub is_presentation : Presentation → Bool
+is_presentation P = every (presentation_tests P)
+
+pub is_presentation-true : (P : Presentation) → is_presentation P ≡ true → IsPresentation P
+unfolding is_presentation
+is_presentation-true P e = IsPresentation-from_tests P (every-true (presentation_tests P) e)
+
 unfoldable pub is_valid : Presentation → Bool
 is_valid P = every (valid_tests P)
 
@@ -157,7 +196,7 @@ IsValid-from_tests P presentation (version, (balance, (plain, (names, (distinct,
   );
   names = All-from_test (λ name. IsTrue (is_name name) × IsFalse (is_rooted name)) (λ name. is_name name && not (is_rooted name)) named P.names names;
   distinct = AllPairs-from_test ◌≢◌ (λ m n. not (same_letters m n)) differ P.names distinct;
-  beside = λ x y h. absurd (inverseless P.inverses (presentation.1.1.1.1.0) x y h);
+  beside = λ x y h. (inverses_pass-true P.inverses presentation.1.1.1.1.0 x y h).1;
   balanced = λ h. absurd (unbalanced h);
   letters = leb-true (length P.names) most_letters letters;
   generators = (ltb-true 0 P.generators some, leb-true P.generators most_generators generators);

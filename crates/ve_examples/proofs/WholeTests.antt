@@ -12,7 +12,7 @@ use Rattle.ve_theory.specs.Presentations.{Presentation, inverse_relators, greate
 use Rattle.ve_theory.specs.Validity.{is_name, is_rooted, IsValid}
 use Rattle.ve_theory.specs.Derivations.{value}
 use Rattle.ve_theory.specs.Levels.{IsNormal, steps_to, HasSize, Closes}
-use Rattle.ve_theory.specs.Answers.{Row, Action, Answer, dimension, row_times_letters, word_row, IsRow, IsGrown, IsWellFormed, HasShape, IsAnswer}
+use Rattle.ve_theory.specs.Answers.{Row, Action, Answer, dimension, row_times_letters, word_row, IsRow, IsGrown, IsWellFormed, HasShape, IsOrdered, MeetsRelations, IsAnswer}
 use Rattle.ve_theory.specs.FinishedLevels.{IsFinishedLevel}
 use Rattle.ve_theory.specs.Laws.{SettlesLevel, SettlesModule, FinishedLevelsSettle, ClosingLevelsSettle}
 use Rattle.ve_examples.specs.Sizes.{HaveSizes}
@@ -126,6 +126,8 @@ pub record IsWorkedOut (P : Presentation) (A : Answer) (listed : List ℕ) : Typ
   pub valid : IsValid P
   pub answer : IsAnswer P A
   pub sizes : HaveSizes P listed
+  pub ordered : IsOrdered P A.action
+  pub meets : MeetsRelations P A.action
 
 module _ (F : FinishedLevelsSettle) (C : ClosingLevelsSettle) (P : Presentation) (A : Answer) (sizes : List ℕ) (levels : List Level) where
   IsWorkedOut-from_tests : (level_at levels A.closed).action ≡ A.action → HasShape P A → Every (whole_tests P A sizes levels) → IsWorkedOut P A sizes
@@ -137,6 +139,8 @@ module _ (F : FinishedLevelsSettle) (C : ClosingLevelsSettle) (P : Presentation)
       closed = record { closes = closes; least = λ k l. stays_open k l };
     };
     sizes = λ k l. size_at k (omega (arith, eqb-true (length sizes) (A.closed + 1) count));
+    ordered = settled.ordered;
+    meets = settled.meets;
   }
     where
       finished_at : (k : ℕ) → k ≤ A.closed → IsFinishedLevel P k (level_at levels k).action

@@ -4,3 +4,6 @@ pub mod ZeroModule
 pub mod TiedGenerators
 pub mod ProportionalGenerators
 pub mod WeightedPair
+pub mod WrongAnswers
+pub mod ThreeCycle
+pub mod Triangle

@@ -2,7 +2,7 @@
 use Rattle.std.proofs.Common.{ℕ, ◌<◌, ◌≤◌, [], ◌∷◌, length, All, arith}
 use Rattle.std.proofs.lemmas.List.Elements.{All-nil, All-cons}
 use Rattle.ve_theory.specs.Words.{Word, times_all, same_word}
-use Rattle.ve_theory.specs.Elements.{AlgebraElement, greatest, word_times, times_letter}
+use Rattle.ve_theory.specs.Elements.{AlgebraElement, greatest, word_times}
 use Rattle.ve_theory.specs.Presentations.{Presentation, IsWord, relators, relator, submodule_relation, reach, element_reach, due}
 use Rattle.ve_theory.specs.Derivations.{by_relator, by_submodule, value, IsDerivation, StaysWithin, DerivedWithin}
 use Rattle.ve_theory.specs.Laws.{LevelsAreClosed}
@@ -35,7 +35,7 @@ levels_are_closed P k = record {
   alike = λ u v same h. DerivedWithin-alike P k (weights_from_Alike same_word Decides-same_word P.prime u v same) h;
   empty = DerivedWithin-nothing P k;
   combined = λ c d u v g h. DerivedWithin-combined P k c d g h;
-  letters = λ v x is_letter within h. DerivedWithin-times P k x is_letter (Within-reach P k (times_letter v x) within) h;
+  letters = λ v x is_letter within h. DerivedWithin-times P k x is_letter within h;
   by_relators = relator_words P k;
   by_submodule = submodule_relations P k;
 }

@@ -11,7 +11,7 @@ use Rattle.ve_theory.specs.Levels.{IsNormal, Closes}
 use Rattle.ve_theory.specs.Answers.{Action, Row, basis_word, dimension, image_row, matrix_row, row_times_element, word_row, evaluation, combination_of, IsRowUpTo, IsNotAfter, HasDerivedRows, IsOrdered, MeetsRelations}
 use Rattle.ve_theory.specs.FinishedLevels.{IsFinishedLevel}
 use Rattle.ve_theory.specs.Laws.{SettlesLevel, SettlesModule}
-use Rattle.ve_theory.proofs.Grown.{grown_from_least}
+use Rattle.ve_theory.proofs.Grown.{grown_from_least, grown_from_normal}
 use Rattle.ve_theory.specs.Levels.{IsLeast, Lists}
 use Rattle.ve_theory.proofs.Sums.{SameWeights, SameWeights-sym, SameWeights-trans, SameWeights-extended, SameWeights_of, prime-large}
 use Rattle.ve_theory.proofs.Orders.{reach-times, before_reach, has_bounds}
@@ -125,9 +125,13 @@ module _ (P : Presentation) (k : ℕ) (A : Action) (V : IsPresentation P) (F : I
       let good : IsWordUpTo P k w = (normal.word, normal.within) in
       irreducible_listed level_remainders (λ m t l. (F.words m t l).0) w good (level_row_upto w good) normal.irreducible
 
+  normal_words : Lists P (IsNormal P k) A.basis
+  normal_words = record { rising = F.rising; only = All-from_get_or (IsNormal P k) A.basis (generator 0) basis_word_normal; every = normal_word_listed }
+
   pub settles_level : SettlesLevel P k A
   settles_level = record {
-    normal = record { rising = F.rising; only = All-from_get_or (IsNormal P k) A.basis (generator 0) basis_word_normal; every = normal_word_listed };
+    normal = normal_words;
+    grown = grown_from_normal P k V A.basis normal_words;
     kernel = λ v words. (λ h. zero_row (level_derived_vanishes v h), λ zero. zero_in level_remainders v words (row_weights P.prime (evaluation A v) [] zero));
   }
 

@@ -193,8 +193,8 @@ module _ (P Q : Presentation) (V : IsPresentation P) (W : IsPresentation Q) (B :
           Vanishes-alike P (SameWeights-sym (same_weights h r form))
           ((halves_vanish P V r (known_letters r n)).1 (Vanishes-member P r (Contains-append_right (inverse_relators P.prime 0 P.inverses) P.relations r n)))
 
-pub balance_keeps_the_module : (P Q : Presentation) → IsPresentation P → IsPresentation Q → IsBalanceOf P Q → (v : Element) → (Derived P v ↔ Derived Q v)
-balance_keeps_the_module P Q V W B v = (
+pub balance_keeps_derived : (P Q : Presentation) → IsPresentation P → IsPresentation Q → IsBalanceOf P Q → (v : Element) → (Derived P v ↔ Derived Q v)
+balance_keeps_derived P Q V W B v = (
   Derived-translated P Q (sym B.prime) (sym B.names) (sym B.submodule)
       (each_relator P Q (sym B.prime) (sym B.inverses) (sym B.generators) (sym B.names) (relation_vanishes P Q V W B)),
   Derived-translated Q P B.prime B.names B.submodule (each_relator Q P B.prime B.inverses B.generators B.names (half_vanishes P Q V W B)),

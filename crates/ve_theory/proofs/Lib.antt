@@ -23,3 +23,5 @@ pub mod Remainders
 pub mod RisingLists
 pub mod Sums
 pub mod UniqueAnswers
+pub mod UniqueLevels
+pub mod BalancedAnswers

@@ -24,7 +24,7 @@ difference_number p x r s l = subst (λ q. Congruent q ((p - 1) * (x + (p - 1) *
     at : (m : ℕ) → Congruent (suc m) (m * (x + m * r) + 1 * (x + m * s)) (r + m * s)
     at m = congruent_by (suc m) (m * (x + m * r) + 1 * (x + m * s)) (r + m * s) r (m * r + x) (omega arith)
 
-difference_of_differences : {K : Type 0} (p : ℕ) (u r s : Combination K) → 0 < p → SameWeights p (scaled (p - 1) (difference p u r) ++ scaled 1 (difference p u s)) (difference p r s)
+pub difference_of_differences : {K : Type 0} (p : ℕ) (u r s : Combination K) → 0 < p → SameWeights p (scaled (p - 1) (difference p u r) ++ scaled 1 (difference p u s)) (difference p r s)
 difference_of_differences p u r s l = record {
   at = λ h. ap (λ n. n % p) (simp (weigh-append, weigh-scaled) refl) ∙ (difference_number p (weigh h u) (weigh h r) (weigh h s) l ∙ ap (λ n. n % p) (sym (weigh-difference h p r s)));
 }
@@ -109,17 +109,14 @@ module _ (P : Presentation) (V : IsPresentation P) (A B : Answer) (F : IsModuleA
           ext_get_or [] (get_or A.action.matrices x []) (get_or B.action.matrices x []) (size ∙ sym (matrix_length P B G A.action.basis same_basis x m))
           (λ j n. row x j m (omega (arith, size)))
 
+pub module_answers : (P : Presentation) (A B : Answer) → IsPresentation P → IsModuleAnswer P A → IsModuleAnswer P B → A ≡ record B { closed = A.closed }
+module_answers P A B V F G =
+    same_answers A (record B { closed = A.closed }) (F.shape.prime ∙ sym G.shape.prime) (F.shape.names ∙ sym G.shape.names) (F.shape.generators ∙ sym G.shape.generators) refl
+    (same_actions A.action B.action (sym (same_basis P V A B F G)) (same_images P V A B F G) (same_matrices P V A B F G))
+
 pub answers : (P : Presentation) (A B : Answer) → IsPresentation P → IsAnswer P A → IsAnswer P B → A ≡ B
 answers P A B V F G =
-    same_answers A B (f.shape.prime ∙ sym g.shape.prime) (f.shape.names ∙ sym g.shape.names) (f.shape.generators ∙ sym g.shape.generators)
-    (closing_levels P A.closed B.closed F.closed G.closed)
-    (same_actions A.action B.action (sym (same_basis P V A B f g)) (same_images P V A B f g) (same_matrices P V A B f g))
-  where
-    f : IsModuleAnswer P A
-    f = F.module_answer
-
-    g : IsModuleAnswer P B
-    g = G.module_answer
+    module_answers P A B V F.module_answer G.module_answer ∙ ap (λ n. record B { closed = n }) (closing_levels P A.closed B.closed F.closed G.closed)
 
 pub lists_are_unique : ListsAreUnique
-lists_are_unique = record { of_words = lists_of_words; sizes = sizes; closing_levels = closing_levels; answers = answers }
+lists_are_unique = record { of_words = lists_of_words; sizes = sizes; closing_levels = closing_levels; module_answers = module_answers; answers = answers }

@@ -1,13 +1,13 @@
 -- What holds of the definitions. Each law is the contract of the function of its name.
 use Rattle.std.specs.Prelude.{◌≡◌, ℕ, ◌+◌, ◌*◌, ◌<◌, ◌≤◌, ◌⊎◌, ◌↔◌, Bool, List, [], ◌∷◌, ◌++◌, length, All, AllPairs, Contains, nat_eq}
 use Rattle.ve_theory.specs.Residues.{IsFieldPrime, Congruent}
-use Rattle.ve_theory.specs.Combinations.{Combination, unit, scaled, coefficient, Alike, IsReduced}
+use Rattle.ve_theory.specs.Combinations.{Combination, unit, scaled, extended, coefficient, Alike, IsReduced}
 use Rattle.ve_theory.specs.Words.{Word, generator, times, times_all, same_word, same_letters, Shortlex, ShortlexLetters, Weighted}
 use Rattle.ve_theory.specs.Elements.{AlgebraElement, Element, product, word_times, element_times, times_letter, halved, IsAlgebraElementOf}
 use Rattle.ve_theory.specs.Presentations.{Presentation, IsPresentation, IsWord, letter_count, relators, relator, submodule_relation, step, reach, relator_reach, element_reach, due, before, greatest_step, relator_bound, submodule_bound}
-use Rattle.ve_theory.specs.Derivations.{Derived, DerivedWithin}
-use Rattle.ve_theory.specs.Levels.{IsNormal, IsLeast, Lists, HasSize, Closes, IsClosingLevel}
-use Rattle.ve_theory.specs.Answers.{Row, Action, Answer, HasShape, HasPlacedRows, IsGrown, HasDerivedRows, IsOrdered, IsModuleAnswer, IsAnswer, IsQuotient, MeetsRelations, evaluation, IsZeroRow}
+use Rattle.ve_theory.specs.Derivations.{Derived, DerivedWithin, Within}
+use Rattle.ve_theory.specs.Levels.{IsNormal, IsLeast, Lists, HasSize, Closes, IsClosingLevel, IsOutgrown, IsFinishedAt}
+use Rattle.ve_theory.specs.Answers.{Row, Action, Answer, HasShape, HasPlacedRows, IsGrown, HasDerivedRows, IsOrdered, IsModuleAnswer, IsAnswer, IsQuotient, MeetsRelations, basis_word, dimension, image_row, matrix_row, evaluation, IsZeroRow, AreSameRows}
 use Rattle.ve_theory.specs.FinishedLevels.{IsFinishedLevel}
 
 -- residues
@@ -68,6 +68,22 @@ pub record SumsAddCoefficients : Type 0 where
   pub algebra : AddsCoefficients same_letters
   pub rows : AddsCoefficients nat_eq
 
+-- Replacing keys by sums respects alike sums, joined sums, scalings, and replacing twice.
+pub record ExtendsSums {J K : Type 0} (same_source : J → J → Bool) (same : K → K → Bool) : Type 0 where
+  pub alike : (p : ℕ) (f : J → Combination K) (u v : Combination J) → Alike same_source p u v → Alike same p (extended f u) (extended f v)
+  pub values : (p : ℕ) (f g : J → Combination K) (v : Combination J) → All (λ t. Alike same p (f t.0) (g t.0)) v → Alike same p (extended f v) (extended g v)
+  pub sums : (p : ℕ) (f : J → Combination K) (u v : Combination J) → Alike same p (extended f (u ++ v)) (extended f u ++ extended f v)
+  pub scalings : (p c : ℕ) (f : J → Combination K) (v : Combination J) → Alike same p (extended f (scaled c v)) (scaled c (extended f v))
+  pub units : (p : ℕ) (f : J → Combination K) (j : J) → Alike same p (extended f (unit j)) (f j)
+  pub nested : (p : ℕ) (f : J → Combination K) (g : ℕ → Combination J) (v : Row) → Alike same p (extended f (extended g v)) (extended (λ j. extended f (g j)) v)
+
+-- for places and words
+pub record SumsExtend : Type 0 where
+  pub rows : ExtendsSums nat_eq nat_eq
+  pub row_elements : ExtendsSums nat_eq same_word
+  pub element_rows : ExtendsSums same_word nat_eq
+  pub elements : ExtendsSums same_word same_word
+
 -- A product by elements of the algebra is alike for alike factors, linear in both, and joins single keys. This determines it up
 -- to alike sums, modulo each p.
 pub record IsBilinear {K : Type 0} (same : K → K → Bool) (joined : K → List ℕ → K) (multiply : Combination K → AlgebraElement → Combination K) : Type 0 where
@@ -106,7 +122,7 @@ pub record IsClosedWithin (P : Presentation) (k : ℕ) : Type 0 where
   pub alike : (u v : Element) → Alike same_word P.prime u v → DerivedWithin P k u → DerivedWithin P k v
   pub empty : DerivedWithin P k []
   pub combined : (c d : ℕ) (u v : Element) → DerivedWithin P k u → DerivedWithin P k v → DerivedWithin P k (scaled c u ++ scaled d v)
-  pub letters : (v : Element) (x : ℕ) → x < letter_count P → element_reach P (times_letter v x) ≤ k → DerivedWithin P k v → DerivedWithin P k (times_letter v x)
+  pub letters : (v : Element) (x : ℕ) → x < letter_count P → Within P k (times_letter v x) → DerivedWithin P k v → DerivedWithin P k (times_letter v x)
   pub by_relators : (w : Word) (number : ℕ) → IsWord P w → number < length (relators P) → due P w (relator P number) ≤ k
       → DerivedWithin P k (word_times w (relator P number))
   pub by_submodule : (number : ℕ) → number < length P.submodule → element_reach P (submodule_relation P number) ≤ k
@@ -151,10 +167,11 @@ AnswersDecide = (P : Presentation) (A : Answer) → IsPresentation P → IsModul
 abbrev pub IsElementUpTo : Presentation → ℕ → Element → Type 0
 IsElementUpTo P k v = All (λ t. IsWord P t.0 × (reach P t.0 ≤ k)) v
 
--- The words of a finished level are the normal ones. A combination of words of reach at most k is derived within k exactly
--- where it evaluates to zero.
+-- The words of a finished level are the normal ones, each of them a generator or an earlier one times a letter. A combination of
+-- words of reach at most k is derived within k exactly where it evaluates to zero.
 pub record SettlesLevel (P : Presentation) (k : ℕ) (A : Action) : Type 0 where
   pub normal : Lists P (IsNormal P k) A.basis
+  pub grown : IsGrown A.basis
   pub kernel : (v : Element) → IsElementUpTo P k v → (DerivedWithin P k v ↔ IsZeroRow P.prime (evaluation A v))
 
 abbrev pub FinishedLevelsSettle : Type 0
@@ -175,12 +192,29 @@ ClosingLevelsSettle = (P : Presentation) (k : ℕ) (A : Action) → IsPresentati
 
 -- uniqueness
 
+-- two actions have one basis, and the same rows wherever level k has them
+pub record AreSameLevels (P : Presentation) (k : ℕ) (A B : Action) : Type 0 where
+  pub basis : A.basis ≡ B.basis
+  pub images : (i : ℕ) → i < P.generators → AreSameRows P.prime (image_row A i) (image_row B i)
+  pub matrices : (x j : ℕ) → x < letter_count P → j < dimension A → reach P (basis_word A j) + step P x ≤ k
+      → AreSameRows P.prime (matrix_row A x j) (matrix_row B x j)
+
+abbrev pub FinishedLevelsAreUnique : Type 0
+FinishedLevelsAreUnique =
+    (P : Presentation) (k : ℕ) (A B : Action) → IsPresentation P → IsFinishedLevel P k A → IsFinishedLevel P k B → AreSameLevels P k A B
+
 pub record ListsAreUnique : Type 0 where
   pub of_words : (P : Presentation) (us vs : List Word) → IsPresentation P → AllPairs (before P) us → AllPairs (before P) vs
       → ((w : Word) → Contains us w ↔ Contains vs w) → us ≡ vs
   pub sizes : (P : Presentation) (k m n : ℕ) → IsPresentation P → HasSize P k m → HasSize P k n → m ≡ n
   pub closing_levels : (P : Presentation) (j k : ℕ) → IsClosingLevel P j → IsClosingLevel P k → j ≡ k
+  pub module_answers : (P : Presentation) (A B : Answer) → IsPresentation P → IsModuleAnswer P A → IsModuleAnswer P B → A ≡ record B { closed = A.closed }
   pub answers : (P : Presentation) (A B : Answer) → IsPresentation P → IsAnswer P A → IsAnswer P B → A ≡ B
+
+-- An enumeration ends in one way alone: outgrown at one level of one size, or finished.
+pub record EndingsExclude : Type 0 where
+  pub outgrown_once : (P : Presentation) (limit j k m n : ℕ) → IsPresentation P → IsOutgrown P limit j m → IsOutgrown P limit k n → (j ≡ k) × (m ≡ n)
+  pub not_both : (P : Presentation) (limit j k n : ℕ) → IsPresentation P → IsFinishedAt P limit j → ¬ IsOutgrown P limit k n
 
 -- the bound on levels: one that has at most `limit` words, and does not close, is not far up
 abbrev pub OpenLevelsAreBounded : Type 0
@@ -201,10 +235,15 @@ pub record IsBalanceOf (P Q : Presentation) : Type 0 where
   pub prime : Q.prime ≡ P.prime
   pub names : Q.names ≡ P.names
   pub inverses : Q.inverses ≡ P.inverses
+  pub weights : Q.weights ≡ P.weights
   pub generators : Q.generators ≡ P.generators
   pub submodule : Q.submodule ≡ P.submodule
   pub relations : AreHalvesOf P.prime P P.relations Q.relations
 
--- the same elements are derived
+-- the same elements are derived, and the module has the same answers, but for the closing level
+pub record PresentOneModule (P Q : Presentation) : Type 0 where
+  pub derived : (v : Element) → (Derived P v ↔ Derived Q v)
+  pub answers : (A : Answer) → (IsModuleAnswer P A ↔ IsModuleAnswer Q A)
+
 abbrev pub BalanceKeepsTheModule : Type 0
-BalanceKeepsTheModule = (P Q : Presentation) → IsPresentation P → IsPresentation Q → IsBalanceOf P Q → (v : Element) → (Derived P v ↔ Derived Q v)
+BalanceKeepsTheModule = (P Q : Presentation) → IsPresentation P → IsPresentation Q → IsBalanceOf P Q → PresentOneModule P Q

@@ -1,10 +1,15 @@
 //! Sums, scalings and products of elements.
 
-ghost use Rattle.ve_theory.specs.Laws.{SumsAddCoefficients, ProductsAreBilinear, ReducedListsAreUnique};
+ghost use Rattle.ve_theory.specs.Laws.{SumsAddCoefficients, SumsExtend, ProductsAreBilinear, ReducedListsAreUnique};
 
 /// A sum adds coefficients, and a scaling multiplies them.
 pub fn sums_add_coefficients()
     ensures { SumsAddCoefficients }
+{}
+
+/// Replacing keys by sums is linear, and alike for alike sums.
+pub fn sums_extend()
+    ensures { SumsExtend }
 {}
 
 /// Products are determined: alike for alike factors, linear in both, and words joined for single words.
