@@ -25,3 +25,4 @@ pub mod Sums
 pub mod UniqueAnswers
 pub mod UniqueLevels
 pub mod BalancedAnswers
+pub mod ValidBounds

@@ -4,11 +4,12 @@ use Rattle.ve_theory.specs.Residues.{IsFieldPrime, Congruent}
 use Rattle.ve_theory.specs.Combinations.{Combination, unit, scaled, extended, coefficient, Alike, IsReduced}
 use Rattle.ve_theory.specs.Words.{Word, generator, times, times_all, same_word, same_letters, Shortlex, ShortlexLetters, Weighted}
 use Rattle.ve_theory.specs.Elements.{AlgebraElement, Element, product, word_times, element_times, times_letter, halved, IsAlgebraElementOf}
-use Rattle.ve_theory.specs.Presentations.{Presentation, IsPresentation, IsWord, letter_count, relators, relator, submodule_relation, step, reach, relator_reach, element_reach, due, before, greatest_step, relator_bound, submodule_bound}
+use Rattle.ve_theory.specs.Presentations.{Presentation, IsPresentation, most_weight, IsWord, letter_count, relators, relator, submodule_relation, step, reach, relator_reach, element_reach, due, before, greatest_step, relator_bound, submodule_bound}
 use Rattle.ve_theory.specs.Derivations.{Derived, DerivedWithin, Within}
 use Rattle.ve_theory.specs.Levels.{IsNormal, IsLeast, Lists, HasSize, Closes, IsClosingLevel, IsOutgrown, IsFinishedAt}
 use Rattle.ve_theory.specs.Answers.{Row, Action, Answer, HasShape, HasPlacedRows, IsGrown, HasDerivedRows, IsOrdered, IsModuleAnswer, IsAnswer, IsQuotient, MeetsRelations, basis_word, dimension, image_row, matrix_row, evaluation, IsZeroRow, AreSameRows}
 use Rattle.ve_theory.specs.FinishedLevels.{IsFinishedLevel}
+use Rattle.ve_theory.specs.Validity.{most_length, IsValid}
 
 -- residues
 
@@ -32,6 +33,15 @@ pub record HasBounds (P : Presentation) : Type 0 where
 
 abbrev pub ReachesAreBounded : Type 0
 ReachesAreBounded = (P : Presentation) → IsPresentation P → HasBounds P
+
+-- words of a valid presentation have at most 1,000 letters, and letters weigh at most 16
+pub record HasSmallReaches (P : Presentation) : Type 0 where
+  pub steps : greatest_step P ≤ most_weight
+  pub relators : relator_bound P ≤ most_weight * most_length
+  pub submodule : submodule_bound P ≤ most_weight * most_length
+
+abbrev pub ValidReachesAreSmall : Type 0
+ValidReachesAreSmall = (P : Presentation) → IsValid P → HasSmallReaches P
 
 -- a strict total order, in which a word of smaller reach comes first
 pub record IsTotalOrder (P : Presentation) : Type 0 where

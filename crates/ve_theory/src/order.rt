@@ -1,6 +1,6 @@
 //! The reach and the order of words.
 
-ghost use Rattle.ve_theory.specs.Laws.{ReachAddsUp, ReachesAreBounded, WordsAreOrdered, LettersKeepOrder, FinitelyManyBefore, EqualWeightsAreShortlex};
+ghost use Rattle.ve_theory.specs.Laws.{ReachAddsUp, ReachesAreBounded, WordsAreOrdered, LettersKeepOrder, FinitelyManyBefore, EqualWeightsAreShortlex, ValidReachesAreSmall};
 
 /// A word without letters has reach 0, and a letter adds its step.
 pub fn reach_adds_up()
@@ -10,6 +10,11 @@ pub fn reach_adds_up()
 /// Steps, relators and submodule relations reach no further than their bounds.
 pub fn reaches_are_bounded()
     ensures { ReachesAreBounded }
+{}
+
+/// In a valid presentation they are at most 16,000.
+pub fn valid_reaches_are_small()
+    ensures { ValidReachesAreSmall }
 {}
 
 /// Words are in a strict total order, in which smaller reach comes first.
