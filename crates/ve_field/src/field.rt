@@ -43,6 +43,15 @@ impl Field {
         self.prime
     }
 
+    /// The prime is in the table.
+    pub fn has_prime(&self)
+        ensures in_table { IsFieldPrime self.now }
+        ensures above_one { 1 < self.now }
+        ensures below_256 { self.now < 256 }
+    {
+        self.prime();
+    }
+
     /// Whether `a` is an element of the field.
     pub fn is_residue(&self, a: u8) -> bool
         ensures { IsTrue result ↔ (a < self.now) }
@@ -70,6 +79,13 @@ impl Field {
         ensures product { result ≡ (a * b) % self.now }
         ensures nonzero { 0 < a → 0 < b → 0 < result }
     {
+        // Most coefficients are 1, and a division costs more than a comparison.
+        if a == 1 {
+            return b;
+        }
+        if b == 1 {
+            return a;
+        }
         let product = u16::from(a) * u16::from(b);
         (product % u16::from(self.prime)) as u8
     }
@@ -90,7 +106,12 @@ impl Field {
         ensures residue { result < self.now }
         ensures inverse { Congruent self.now (a * result) 1 }
     {
-        self.pow(a, self.prime() - 2)
+        let exponent = self.prime() - 2;
+        // 1 and -1 are their own inverses.
+        if a == 1 || a == exponent + 1 {
+            return a;
+        }
+        self.pow(a, exponent)
     }
 
     /// The residue of any number.
