@@ -192,8 +192,8 @@ impl FreeMod {
         self.terms[at].coef
     }
 
-    // The greatest weight of a word, and 0 for zero.
-    pub(crate) fn weight(&self, weights: &[u8]) -> u32
+    /// The greatest weight of a word, and 0 for zero.
+    pub fn weight(&self, weights: &[u8]) -> u32
         requires letters { All (λ t. All (λ x. x < length weights.now) (letters t.0)) self.now }
         requires weights { All (λ w. w ≤ most_weight) weights.now }
         ensures weight { result ≡ element_weight weights.now self.now }

@@ -1,9 +1,9 @@
 //! Presentations: letters, generators and relations, within fixed limits.
 
-ghost use Rattle.std.specs.Prelude.{◌≡◌, ◌+◌, ◌<◌, ◌≤◌, ◌⊎◌, IfOk, IfSome, Some, length, slice_get};
-ghost use Rattle.ve_theory.specs.Presentations.{greatest_step, inverse_relators, letter_count, relator, relator_bound, relators, step};
+ghost use Rattle.std.specs.Prelude.{◌≡◌, ◌+◌, ◌*◌, ◌<◌, ◌≤◌, ◌⊎◌, IfOk, IfSome, Some, length, slice_get};
+ghost use Rattle.ve_theory.specs.Presentations.{greatest_step, most_weight, inverse_relators, letter_count, relator, relator_bound, relators, step};
 ghost use Rattle.ve_theory.specs.Presentations.{submodule_bound, submodule_relation};
-ghost use Rattle.ve_theory.specs.Validity.{IsValid, most_relations};
+ghost use Rattle.ve_theory.specs.Validity.{IsValid, most_length, most_relations};
 ghost use Rattle.ve_pres.specs.Drafts.{IsOpen, bare_draft};
 
 mod copies;
@@ -97,8 +97,7 @@ impl Presentation {
         ensures bare { result ≡ bare_draft version field }
         ensures open { IsOpen result }
     {
-        // The field is one of those in the table.
-        let _prime = field.prime();
+        field.has_prime();
         Presentation {
             field,
             version,
@@ -225,17 +224,37 @@ impl Presentation {
         &self.submodule[number as usize]
     }
 
+    /// How many relations were counted so far, zero ones among them.
+    pub fn counted(&self) -> u32
+        ensures { result ≡ self.now.counted }
+    {
+        self.counted
+    }
+
     /// The greatest weight of a letter or a relator, at least 1.
     pub fn d(&self) -> u32
-        ensures { result ≡ relator_bound self.now.presentation }
+        ensures bound { result ≡ relator_bound self.now.presentation }
+        ensures within { result ≤ most_weight * most_length }
     {
+        ve_theory::order::valid_reaches_are_small();
         self.d
     }
 
     /// The greatest weight of a submodule relation, and 0 where there is none.
     pub fn m(&self) -> u32
-        ensures { result ≡ submodule_bound self.now.presentation }
+        ensures bound { result ≡ submodule_bound self.now.presentation }
+        ensures within { result ≤ most_weight * most_length }
     {
+        ve_theory::order::valid_reaches_are_small();
         self.m
+    }
+
+    /// The presentation is valid, and its relations are among those that were counted.
+    pub fn is_valid(&self)
+        ensures valid { IsValid self.now.presentation }
+        ensures counted { length self.now.presentation.relations + length self.now.presentation.submodule ≤ self.now.counted }
+        ensures limit { self.now.counted ≤ most_relations }
+    {
+        self.field();
     }
 }

@@ -134,7 +134,8 @@ impl Sparse {
     /// The terms from a place on, as a vector of their own.
     pub fn rest(&self, from: usize) -> Result<Sparse, Memory>
         requires { from ≤ length self.now }
-        ensures { IfOk result (λ v. v ≡ drop from self.now) }
+        ensures rest { IfOk result (λ v. v ≡ drop from self.now) }
+        ensures fits { IfOk result (λ v. (p : ℕ) → IsReduced ◌<◌ p self.now → IsReduced ◌<◌ p v) }
     {
         let terms = SmallVec::from_slice(*self.terms.allocator(), &self.terms.as_slice()[from..])?;
         Ok(Sparse { terms })

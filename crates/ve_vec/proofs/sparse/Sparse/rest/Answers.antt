@@ -16,5 +16,9 @@ invariant_of-result c = (
       (IsReduced-drop c.self.invariant.0 c.args.from _ (rw c.self.view_is at c.self.invariant.1)),
 )
 
-pub returns : goal.returns
-returns c = pairs_of_rest c.args.from _ _ _ _ c.in_ok-terms.ensures.ok c.as_slice.ensures c.self.view_is
+pub returns-clause-rest : goal.returns-clause-rest
+returns-clause-rest c = pairs_of_rest c.args.from _ _ _ _ c.in_ok-terms.ensures.ok c.as_slice.ensures c.self.view_is
+
+pub returns-clause-fits : goal.returns-clause-fits
+returns-clause-fits c p reduced =
+    rw (pairs_of_rest c.args.from _ _ _ _ c.in_ok-terms.ensures.ok c.as_slice.ensures c.self.view_is) (IsReduced-drop p c.args.from _ reduced)
