@@ -1,0 +1,19 @@
+-- Lemmas that several proofs share, by theme: forwards and vectors, what is known, actions of tables, levels.
+pub mod CarriedRows
+pub mod FinishedTables
+pub mod Forwardings
+pub mod KnownElements
+pub mod LiveActions
+pub mod LiveLevels
+pub mod NothingLeft
+pub mod OpeningLevels
+pub mod PackedLevels
+pub mod ReducedSums
+pub mod RelatorLetters
+pub mod RelatorWords
+pub mod Resolutions
+pub mod ResolvedVectors
+pub mod RowsAtWork
+pub mod SettledSteps
+pub mod Tracing
+pub mod UnderWay
