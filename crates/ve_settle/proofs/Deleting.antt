@@ -12,7 +12,7 @@ use Rattle.ve_theory.proofs.Members.{All-scaled}
 use Rattle.ve_theory.proofs.DerivedElements.{DerivedWithin-alike}
 use Rattle.ve_table.specs.Tables.{ActionTable, presented, word_at, element_of, IsLive}
 use Rattle.ve_table.specs.Sound.{IsForwardOf, HasLiveIds}
-use Rattle.ve_settle.specs.Settling.{IsDrawnFrom}
+use Rattle.ve_machine.specs.Forwards.{IsDrawnFrom}
 use Rattle.ve_settle.proofs.Derived.{DerivedWithin-scaled}
 use Rattle.ve_settle.proofs.Vectors.{reduced_keys}
 

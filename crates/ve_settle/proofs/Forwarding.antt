@@ -6,69 +6,68 @@ use Rattle.ve_theory.specs.Answers.{Row}
 use Rattle.ve_theory.proofs.Sums.{weigh, weigh-append, weigh-scaled, weigh-unit, weigh-difference, SameWeights, SameWeights-refl, SameWeights-sym, SameWeights-trans, SameWeights-append, SameWeights-difference, difference_vanishes, Alike_from_weights, weights_from_Alike, Decides-nat_eq}
 use Rattle.ve_theory.proofs.Independence.{congruent_by}
 use Rattle.ve_theory.proofs.DerivedElements.{SameWeights-equal}
-use Rattle.ve_table.specs.Tables.{ActionTable, presented}
-use Rattle.ve_settle.specs.Settling.{stand_in, IsForwarding}
+use Rattle.ve_machine.specs.Forwards.{Forwards, stand_in, IsForwarding}
 
 -- an id less what stands for it
-abbrev less : ActionTable → ℕ → Row
-less T b = difference (presented T).prime (unit b) (stand_in T b)
+abbrev less : ℕ → Forwards → ℕ → Row
+less p forwards b = difference p (unit b) (stand_in forwards b)
 
-shown : (T : ActionTable) (v : Row) (forwarding : IsForwarding T v) → SameWeights (presented T).prime v (extended (less T) forwarding.by)
-shown T v forwarding = weights_from_Alike nat_eq Decides-nat_eq (presented T).prime v (extended (less T) forwarding.by) forwarding.sum
+shown : (p : ℕ) (forwards : Forwards) (v : Row) (forwarding : IsForwarding p forwards v) → SameWeights p v (extended (less p forwards) forwarding.by)
+shown p forwards v forwarding = weights_from_Alike nat_eq Decides-nat_eq p v (extended (less p forwards) forwarding.by) forwarding.sum
 
-pub IsForwarding-by : (T : ActionTable) (v by : Row) → SameWeights (presented T).prime v (extended (less T) by) → IsForwarding T v
-IsForwarding-by T v by same = record { by = by; sum = Alike_from_weights nat_eq same }
+pub IsForwarding-by : (p : ℕ) (forwards : Forwards) (v by : Row) → SameWeights p v (extended (less p forwards) by) → IsForwarding p forwards v
+IsForwarding-by p forwards v by same = record { by = by; sum = Alike_from_weights nat_eq same }
 
 -- a vector less itself
-pub nothing_forwarded : (T : ActionTable) (v w : Row) → 0 < (presented T).prime → SameWeights (presented T).prime v w → IsForwarding T (difference (presented T).prime v w)
+pub nothing_forwarded : (p : ℕ) (forwards : Forwards) (v w : Row) → 0 < p → SameWeights p v w → IsForwarding p forwards (difference p v w)
 unfolding extended
-nothing_forwarded T v w positive same = IsForwarding-by T (difference (presented T).prime v w) [] (difference_vanishes (presented T).prime v w positive same)
+nothing_forwarded p forwards v w positive same = IsForwarding-by p forwards (difference p v w) [] (difference_vanishes p v w positive same)
 
 -- a term goes from what is left to what is done
-pub done_live : (T : ActionTable) (v done new left rest : Row) (i c : ℕ) → SameWeights (presented T).prime left ((i, c) ∷ rest) → SameWeights (presented T).prime new (done ++ scaled c (unit i))
-    → IsForwarding T (difference (presented T).prime v (done ++ left)) → IsForwarding T (difference (presented T).prime v (new ++ rest))
+pub done_live : (p : ℕ) (forwards : Forwards) (v done new left rest : Row) (i c : ℕ) → SameWeights p left ((i, c) ∷ rest) → SameWeights p new (done ++ scaled c (unit i))
+    → IsForwarding p forwards (difference p v (done ++ left)) → IsForwarding p forwards (difference p v (new ++ rest))
 unfolding weigh scaled
-done_live T v done new left rest i c left_is new_is forwarding =
-    IsForwarding-by T (difference (presented T).prime v (new ++ rest)) forwarding.by
-    (SameWeights-trans (SameWeights-difference (SameWeights-refl (presented T).prime v) moved) (shown T (difference (presented T).prime v (done ++ left)) forwarding))
+done_live p forwards v done new left rest i c left_is new_is forwarding =
+    IsForwarding-by p forwards (difference p v (new ++ rest)) forwarding.by
+    (SameWeights-trans (SameWeights-difference (SameWeights-refl p v) moved) (shown p forwards (difference p v (done ++ left)) forwarding))
   where
-    moved : SameWeights (presented T).prime (new ++ rest) (done ++ left)
+    moved : SameWeights p (new ++ rest) (done ++ left)
     moved =
-        SameWeights-trans (SameWeights-append new_is (SameWeights-refl (presented T).prime rest))
+        SameWeights-trans (SameWeights-append new_is (SameWeights-refl p rest))
         (SameWeights-trans (SameWeights-equal (λ h. weigh-append h (done ++ scaled c (unit i)) rest ∙ omega (arith, weigh-append h done (scaled c (unit i)), weigh-append h done ((i, c) ∷ rest))))
-        (SameWeights-append (SameWeights-refl (presented T).prime done) (SameWeights-sym left_is)))
+        (SameWeights-append (SameWeights-refl p done) (SameWeights-sym left_is)))
 
 exchanged : (m v r l f a c : ℕ) → Congruent (suc m) (v + m * (r + (l + c * f))) (v + m * (r + (c * a + l)) + c * (a + m * f))
 exchanged m v r l f a c = congruent_by (suc m) (v + m * (r + (l + c * f))) (v + m * (r + (c * a + l)) + c * (a + m * f)) (c * a) 0 (omega arith)
 
 -- a term is replaced by what stands for it
-pub done_dead : (T : ActionTable) (v done left rest new f : Row) (i c : ℕ) → 0 < (presented T).prime → SameWeights (presented T).prime left ((i, c) ∷ rest) → stand_in T i ≡ f → SameWeights (presented T).prime new (rest ++ scaled c f)
-    → IsForwarding T (difference (presented T).prime v (done ++ left)) → IsForwarding T (difference (presented T).prime v (done ++ new))
+pub done_dead : (p : ℕ) (forwards : Forwards) (v done left rest new f : Row) (i c : ℕ) → 0 < p → SameWeights p left ((i, c) ∷ rest) → stand_in forwards i ≡ f → SameWeights p new (rest ++ scaled c f)
+    → IsForwarding p forwards (difference p v (done ++ left)) → IsForwarding p forwards (difference p v (done ++ new))
 unfolding weigh extended
-done_dead T v done left rest new f i c positive left_is f_is new_is forwarding =
-    IsForwarding-by T (difference (presented T).prime v (done ++ new)) ((i, c) ∷ forwarding.by)
-    (SameWeights-trans (SameWeights-difference (SameWeights-refl (presented T).prime v) (SameWeights-append (SameWeights-refl (presented T).prime done) new_is))
+done_dead p forwards v done left rest new f i c positive left_is f_is new_is forwarding =
+    IsForwarding-by p forwards (difference p v (done ++ new)) ((i, c) ∷ forwarding.by)
+    (SameWeights-trans (SameWeights-difference (SameWeights-refl p v) (SameWeights-append (SameWeights-refl p done) new_is))
     (SameWeights-trans replaced
-    (SameWeights-append (SameWeights-refl (presented T).prime (scaled c (less T i)))
-    (SameWeights-trans (SameWeights-difference (SameWeights-refl (presented T).prime v) (SameWeights-append (SameWeights-refl (presented T).prime done) (SameWeights-sym left_is)))
-    (shown T (difference (presented T).prime v (done ++ left)) forwarding)))))
+    (SameWeights-append (SameWeights-refl p (scaled c (less p forwards i)))
+    (SameWeights-trans (SameWeights-difference (SameWeights-refl p v) (SameWeights-append (SameWeights-refl p done) (SameWeights-sym left_is)))
+    (shown p forwards (difference p v (done ++ left)) forwarding)))))
   where
-    replaced : SameWeights (presented T).prime (difference (presented T).prime v (done ++ (rest ++ scaled c f))) (scaled c (less T i) ++ difference (presented T).prime v (done ++ (i, c) ∷ rest))
+    replaced : SameWeights p (difference p v (done ++ (rest ++ scaled c f))) (scaled c (less p forwards i) ++ difference p v (done ++ (i, c) ∷ rest))
     replaced = record {
       at = λ h.
-          let m : ℕ = (presented T).prime - 1 in
-          let left_weight : weigh h (difference (presented T).prime v (done ++ (rest ++ scaled c f))) ≡ weigh h v + m * (weigh h done + (weigh h rest + c * weigh h f)) =
-          weigh-difference h (presented T).prime v (done ++ (rest ++ scaled c f))
+          let m : ℕ = p - 1 in
+          let left_weight : weigh h (difference p v (done ++ (rest ++ scaled c f))) ≡ weigh h v + m * (weigh h done + (weigh h rest + c * weigh h f)) =
+          weigh-difference h p v (done ++ (rest ++ scaled c f))
           ∙ ap (λ n. weigh h v + m * n) (weigh-append h done (rest ++ scaled c f) ∙ ap (λ n. weigh h done + n) (weigh-append h rest (scaled c f) ∙ ap (λ n. weigh h rest + n) (weigh-scaled h c f))) in
-          let first_weight : weigh h (scaled c (less T i)) ≡ c * (h i + m * weigh h f) =
-          weigh-scaled h c (less T i)
-          ∙ ap (λ n. c * n) (weigh-difference h (presented T).prime (unit i) (stand_in T i) ∙ ap (λ w. weigh h (unit i) + m * weigh h w) f_is ∙ ap (λ n. n + m * weigh h f) (weigh-unit h i)) in
-          let other_weight : weigh h (difference (presented T).prime v (done ++ (i, c) ∷ rest)) ≡ weigh h v + m * (weigh h done + (c * h i + weigh h rest)) =
-          weigh-difference h (presented T).prime v (done ++ (i, c) ∷ rest) ∙ ap (λ n. weigh h v + m * n) (weigh-append h done ((i, c) ∷ rest)) in
-          let right_weight : weigh h (scaled c (less T i) ++ difference (presented T).prime v (done ++ (i, c) ∷ rest)) ≡ weigh h v + m * (weigh h done + (c * h i + weigh h rest)) + c * (h i + m * weigh h f) =
-          weigh-append h (scaled c (less T i)) (difference (presented T).prime v (done ++ (i, c) ∷ rest)) ∙ omega (arith, first_weight, other_weight) in
-          ap (λ n. n % (presented T).prime) left_weight
+          let first_weight : weigh h (scaled c (less p forwards i)) ≡ c * (h i + m * weigh h f) =
+          weigh-scaled h c (less p forwards i)
+          ∙ ap (λ n. c * n) (weigh-difference h p (unit i) (stand_in forwards i) ∙ ap (λ w. weigh h (unit i) + m * weigh h w) f_is ∙ ap (λ n. n + m * weigh h f) (weigh-unit h i)) in
+          let other_weight : weigh h (difference p v (done ++ (i, c) ∷ rest)) ≡ weigh h v + m * (weigh h done + (c * h i + weigh h rest)) =
+          weigh-difference h p v (done ++ (i, c) ∷ rest) ∙ ap (λ n. weigh h v + m * n) (weigh-append h done ((i, c) ∷ rest)) in
+          let right_weight : weigh h (scaled c (less p forwards i) ++ difference p v (done ++ (i, c) ∷ rest)) ≡ weigh h v + m * (weigh h done + (c * h i + weigh h rest)) + c * (h i + m * weigh h f) =
+          weigh-append h (scaled c (less p forwards i)) (difference p v (done ++ (i, c) ∷ rest)) ∙ omega (arith, first_weight, other_weight) in
+          ap (λ n. n % p) left_weight
           ∙ subst (λ q. Congruent q (weigh h v + m * (weigh h done + (weigh h rest + c * weigh h f))) (weigh h v + m * (weigh h done + (c * h i + weigh h rest)) + c * (h i + m * weigh h f)))
           (omega (arith, positive)) (exchanged m (weigh h v) (weigh h done) (weigh h rest) (weigh h f) (h i) c)
-          ∙ ap (λ n. n % (presented T).prime) (sym right_weight);
+          ∙ ap (λ n. n % p) (sym right_weight);
     }

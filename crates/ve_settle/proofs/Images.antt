@@ -21,7 +21,7 @@ use Rattle.ve_theory.proofs.DerivedElements.{times_letter-append, times_letter-s
 use Rattle.ve_vec.specs.Tracing.{row_or_zero}
 use Rattle.ve_table.specs.Tables.{ActionTable, presented, word_at, row_at, element_of, on_words, IsDue}
 use Rattle.ve_table.specs.Sound.{IsSound, IsForwardOf}
-use Rattle.ve_settle.specs.Settling.{stand_in, image_difference}
+use Rattle.ve_machine.specs.Forwards.{stand_in, image_difference}
 use Rattle.ve_settle.proofs.Vectors.{reduced_keys, reduced_same}
 use Rattle.ve_settle.proofs.Derived.{DerivedWithin-append, DerivedWithin-scaled, DerivedWithin-extended}
 use Rattle.ve_settle.proofs.Deleting.{rest_of_prime}
@@ -80,7 +80,7 @@ due_below T sound order a b x less due = (omega (arith, less, due.0), due.1, ome
 
 -- the forward of a dead id, and the rows of its ids and of itself
 module _ (T : ActionTable) (sound : IsSound T) (order : IsTotalOrder (presented T)) (adds : ReachAddsUp) (dead x : ℕ) (due : IsDue T dead x)
-    (row forward : Row) (row_is : row_at T dead x ≡ Some row) (is_forward : IsForwardOf T dead forward) (forward_is : stand_in T dead ≡ forward) where
+    (row forward : Row) (row_is : row_at T dead x ≡ Some row) (is_forward : IsForwardOf T dead forward) (forward_is : stand_in T.forwards dead ≡ forward) where
   rows : ℕ → Row
   rows = row_or_zero (row_at T) x
 
@@ -150,17 +150,17 @@ module _ (T : ActionTable) (sound : IsSound T) (order : IsTotalOrder (presented 
           subst (λ v. DerivedWithin (presented T) T.level (difference (presented T).prime (unit (times (word_at T c) x)) (element_of T v))) (sym (row_or c found.0 found.1))
           (sound.rows c x found.0 found.1).stands.derived
 
-  image_is : image_difference T dead x ≡ difference (presented T).prime row (extended rows forward)
+  image_is : image_difference (presented T).prime (row_at T) T.forwards dead x ≡ difference (presented T).prime row (extended rows forward)
   unfolding rows
-  image_is = ap (λ r. difference (presented T).prime r (extended rows (stand_in T dead))) (row_or dead row row_is) ∙ ap (λ v. difference (presented T).prime row (extended rows v)) forward_is
+  image_is = ap (λ r. difference (presented T).prime r (extended rows (stand_in T.forwards dead))) (row_or dead row row_is) ∙ ap (λ v. difference (presented T).prime row (extended rows v)) forward_is
 
-  pub image_derived : (v : Row) → IsReducedOf ◌<◌ nat_eq (presented T).prime v (image_difference T dead x) → DerivedWithin (presented T) T.level (element_of T v)
+  pub image_derived : (v : Row) → IsReducedOf ◌<◌ nat_eq (presented T).prime v (image_difference (presented T).prime (row_at T) T.forwards dead x) → DerivedWithin (presented T) T.level (element_of T v)
   image_derived v is =
       DerivedWithin-alike (presented T) T.level
       (SameWeights-trans (differences_apart (presented T).prime (unit (times (word_at T dead) x)) (element_of T row) (element_of T (extended rows forward)) (positive_prime T sound))
       (SameWeights-trans (SameWeights-sym (extended-difference (presented T).prime (λ j. unit (word_at T j)) row (extended rows forward)))
       (SameWeights-extended (λ j. unit (word_at T j))
-      (SameWeights-sym (SameWeights-trans (reduced_same (presented T).prime v (image_difference T dead x) is) (SameWeights_of image_is))))))
+      (SameWeights-sym (SameWeights-trans (reduced_same (presented T).prime v (image_difference (presented T).prime (row_at T) T.forwards dead x) is) (SameWeights_of image_is))))))
       (DerivedWithin-append (presented T) T.level
       (DerivedWithin-alike (presented T) T.level
       (SameWeights-trans (differences-append (presented T).prime (unit (times (word_at T dead) x)) (extended products forward) (extended (λ j. element_of T (rows j)) forward) (positive_prime T sound))
@@ -168,10 +168,10 @@ module _ (T : ActionTable) (sound : IsSound T) (order : IsTotalOrder (presented 
       (DerivedWithin-append (presented T) T.level forward_times products_less_rows))
       (DerivedWithin-scaled (presented T) T.level ((presented T).prime - 1) (sound.rows dead x row row_is).stands.derived))
 
-  pub image_row : (v : Row) → IsReducedOf ◌<◌ nat_eq (presented T).prime v (image_difference T dead x) → IsRow (presented T).prime (length T.words) v
+  pub image_row : (v : Row) → IsReducedOf ◌<◌ nat_eq (presented T).prime v (image_difference (presented T).prime (row_at T) T.forwards dead x) → IsRow (presented T).prime (length T.words) v
   image_row v is = (
     is.reduced,
-    reduced_keys IsPlace (presented T).prime v (image_difference T dead x) is
+    reduced_keys IsPlace (presented T).prime v (image_difference (presented T).prime (row_at T) T.forwards dead x) is
         (subst (λ e. All (λ (t : ℕ × ℕ). IsPlace t.0) e) (sym image_is)
         (All-append (λ (t : ℕ × ℕ). IsPlace t.0) row (scaled ((presented T).prime - 1) (extended rows forward)) (sound.rows dead x row row_is).stands.row.1
         (All-scaled IsPlace ((presented T).prime - 1) (extended rows forward)

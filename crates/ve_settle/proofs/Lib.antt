@@ -7,8 +7,10 @@ pub mod Forwards
 pub mod Forwarding
 pub mod Substituting
 pub mod Order
+pub mod WordVectors
 pub mod Rewriting
 pub mod Images
 pub mod Resolving
 pub mod UniqueResolutions
 pub mod Vanishing
+pub mod LiveWords

@@ -13,7 +13,7 @@ use Rattle.ve_theory.proofs.DerivedElements.{DerivedWithin-alike}
 use Rattle.ve_vec.specs.Vectors.{AllIds}
 use Rattle.ve_table.specs.Tables.{ActionTable, presented, word_at, element_of, IsLive}
 use Rattle.ve_table.specs.Sound.{IsSound, HasLiveIds}
-use Rattle.ve_settle.specs.Settling.{IsResolved}
+use Rattle.ve_machine.specs.Forwards.{IsResolved}
 use Rattle.ve_settle.proofs.Forwards.{forwarding_derived, positive_prime}
 use Rattle.ve_settle.proofs.Forwarding.{nothing_forwarded}
 
@@ -68,14 +68,14 @@ bounded T sound v w kept bound all =
     (tested_below (bound + 1) v (All-weaker (λ (t : ℕ × ℕ). t.0 ≤ bound) (λ (t : ℕ × ℕ). t.0 < bound + 1) (λ t le. omega (arith, le)) v all))))
 
 -- a vector of live ids is its own
-pub live_resolved : (T : ActionTable) → IsSound T → (v : Row) → IsReduced ◌<◌ (presented T).prime v → HasLiveIds T v → IsResolved T v v
+pub live_resolved : (T : ActionTable) → IsSound T → (v : Row) → IsReduced ◌<◌ (presented T).prime v → HasLiveIds T v → IsResolved (presented T).prime T.forwards v v
 live_resolved T sound v reduced live = record {
   reduced = reduced;
   live = live;
-  forwarding = nothing_forwarded T v v (positive_prime T sound) (SameWeights-refl (presented T).prime v);
+  forwarding = nothing_forwarded (presented T).prime T.forwards v v (positive_prime T sound) (SameWeights-refl (presented T).prime v);
 }
 
-pub resolved_derived : (T : ActionTable) → IsSound T → (v w : Row) → IsResolved T v w → DerivedWithin (presented T) T.level (difference (presented T).prime (element_of T v) (element_of T w))
+pub resolved_derived : (T : ActionTable) → IsSound T → (v w : Row) → IsResolved (presented T).prime T.forwards v w → DerivedWithin (presented T) T.level (difference (presented T).prime (element_of T v) (element_of T w))
 resolved_derived T sound v w resolved =
     DerivedWithin-alike (presented T) T.level (extended-difference (presented T).prime (λ j. unit (word_at T j)) v w)
     (forwarding_derived T sound (difference (presented T).prime v w) resolved.forwarding)

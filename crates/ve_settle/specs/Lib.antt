@@ -1,3 +1,4 @@
 pub mod Settling
+pub mod NormalWords
 pub mod Falling
 pub mod Reduced

@@ -4,7 +4,7 @@ ghost use Rattle.ve_theory.specs.Derivations.{DerivedWithin};
 ghost use Rattle.ve_table.specs.Tables.{element_of, presented};
 ghost use Rattle.ve_table.specs.Sound.{HasLiveIds, IsSound};
 ghost use Rattle.ve_table.specs.Changes.{with_forward};
-ghost use Rattle.ve_settle.specs.Settling.{IsDrawnFrom};
+ghost use Rattle.ve_machine.specs.Forwards.{IsDrawnFrom};
 
 use ve_table::Table;
 use ve_vec::Sparse;

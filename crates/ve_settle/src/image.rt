@@ -3,7 +3,7 @@ ghost use Rattle.ve_theory.specs.Combinations.{IsReducedOf};
 ghost use Rattle.ve_theory.specs.Answers.{IsRow};
 ghost use Rattle.ve_theory.specs.Derivations.{DerivedWithin};
 ghost use Rattle.ve_table.specs.Tables.{element_of, presented, row_at, IsDead};
-ghost use Rattle.ve_settle.specs.Settling.{image_difference};
+ghost use Rattle.ve_machine.specs.Forwards.{image_difference};
 
 use crate::rows::row_of;
 use std::alloc::Global;
@@ -15,7 +15,7 @@ use ve_word::Memory;
 pub fn image_of(alloc: Global, table: &Table, dead: u32, letter: u8) -> Result<Sparse, Memory>
     requires dead { IsDead table.now dead }
     requires row { IsSome (row_at table.now dead letter) }
-    ensures difference { IfOk result (λ v. IsReducedOf ◌<◌ nat_eq (presented table.now).prime v (image_difference table.now dead letter)) }
+    ensures difference { IfOk result (λ v. IsReducedOf ◌<◌ nat_eq (presented table.now).prime v (image_difference (presented table.now).prime (row_at table.now) table.now.forwards dead letter)) }
     ensures row { IfOk result (IsRow (presented table.now).prime (length table.now.words)) }
     ensures derived { IfOk result (λ v. DerivedWithin (presented table.now) table.now.level (element_of table.now v)) }
 {

@@ -1,8 +1,9 @@
-//! Deletes vectors that vanish from a table, and puts the vectors of deleted ids in their place.
+//! Deletes vectors that vanish from a table, puts the vectors of deleted ids in their place, and keeps tables that are finished.
 #![tactic(auto)]
 
 mod deletion;
 mod falling;
+mod finished;
 mod heap;
 mod image;
 mod live;
@@ -13,8 +14,11 @@ mod substitution;
 mod terms;
 
 pub use deletion::delete;
+pub use finished::{Finished, finish, finished_tables_settle};
 pub use image::image_of;
-pub use resolution::{resolutions_are_unique, resolve};
+pub use resolution::{
+    forwardings_resolve_to_zero, resolutions_are_unique, resolutions_keep_words, resolve,
+};
 pub use substitution::rewrite;
 
 #[cfg(test)]

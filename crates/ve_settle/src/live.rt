@@ -1,6 +1,8 @@
-ghost use Rattle.std.specs.Prelude.{◌<◌, ◌↔◌, All, IsTrue, length};
+ghost use Rattle.std.specs.Prelude.{ℕ, ◌<◌, ◌≤◌, ◌↔◌, All, IfNone, IfSome, IsTrue, length};
+ghost use Rattle.ve_table.specs.Tables.{IsLive};
 ghost use Rattle.ve_table.specs.Sound.{HasLiveIds};
 
+use crate::sound::table_is_sound;
 use ve_table::Table;
 use ve_vec::Sparse;
 
@@ -15,4 +17,18 @@ pub(crate) fn has_live_ids(table: &Table, vector: &Sparse) -> bool
         }
     }
     true
+}
+
+/// The last id that is live, or `None` where all are dead.
+pub(crate) fn greatest_live_id(table: &Table) -> Option<u32>
+    ensures live { IfSome result (λ id. IsLive table.now id × ((b : ℕ) → IsLive table.now b → b ≤ id)) }
+    ensures none { IfNone result ((b : ℕ) → ¬ IsLive table.now b) }
+{
+    table_is_sound(table);
+    for id in (0..table.id_count()).rev() {
+        if table.is_live(id) {
+            return Some(id);
+        }
+    }
+    None
 }

@@ -3,7 +3,8 @@ ghost use Rattle.ve_theory.specs.Combinations.{difference};
 ghost use Rattle.ve_theory.specs.Answers.{IsRow};
 ghost use Rattle.ve_theory.specs.Derivations.{DerivedWithin};
 ghost use Rattle.ve_table.specs.Tables.{element_of, presented};
-ghost use Rattle.ve_settle.specs.Settling.{IsResolved, ResolutionsAreUnique};
+ghost use Rattle.ve_machine.specs.Forwards.{IsResolved};
+ghost use Rattle.ve_settle.specs.Settling.{ForwardingsResolveToZero, ResolutionsAreUnique, ResolutionsKeepWords};
 
 use crate::falling::FallingSum;
 use crate::live::has_live_ids;
@@ -17,7 +18,7 @@ use ve_word::Memory;
 /// A vector without dead ids that is equal to this one, where each dead id is the vector that stands for it.
 pub fn resolve(alloc: Global, table: &Table, vector: &Sparse) -> Result<Sparse, Memory>
     requires { IsRow (presented table.now).prime (length table.now.words) vector.now }
-    ensures resolved { IfOk result (IsResolved table.now vector.now) }
+    ensures resolved { IfOk result (IsResolved (presented table.now).prime table.now.forwards vector.now) }
     ensures row { IfOk result (IsRow (presented table.now).prime (length table.now.words)) }
     ensures derived { IfOk result (λ v. DerivedWithin (presented table.now) table.now.level
         (difference (presented table.now).prime (element_of table.now vector.now) (element_of table.now v))) }
@@ -37,7 +38,7 @@ pub fn resolve(alloc: Global, table: &Table, vector: &Sparse) -> Result<Sparse, 
 // again, and each id is met once.
 fn resolve_by_falling_ids(alloc: Global, table: &Table, vector: &Sparse) -> Result<Sparse, Memory>
     requires { IsRow (presented table.now).prime (length table.now.words) vector.now }
-    ensures resolved { IfOk result (IsResolved table.now vector.now) }
+    ensures resolved { IfOk result (IsResolved (presented table.now).prime table.now.forwards vector.now) }
     ensures ids { IfOk result (λ v. (bound : ℕ) → All (λ t. t.0 ≤ bound) vector.now → All (λ t. t.0 ≤ bound) v) }
 {
     let field = *table.presentation().field();
@@ -57,3 +58,19 @@ fn resolve_by_falling_ids(alloc: Global, table: &Table, vector: &Sparse) -> Resu
 pub fn resolutions_are_unique()
     ensures { ResolutionsAreUnique }
 {}
+
+/// A vector is a combination of ids, each less what stands for it, exactly where it resolves to zero.
+pub fn forwardings_resolve_to_zero()
+    ensures { ForwardingsResolveToZero }
+{
+    ve_machine::forwards::forwardings_are_a_space();
+}
+
+/// The resolved form of a row, or of an image, can stand in its place.
+pub fn resolutions_keep_words()
+    ensures { ResolutionsKeepWords }
+{
+    ve_theory::order::words_are_ordered();
+    ve_machine::forwards::forwardings_are_a_space();
+    ve_machine::forwards::resolutions_exist();
+}

@@ -2,7 +2,8 @@ ghost use Rattle.std.specs.Prelude.{◌≡◌, ◌<◌, IfOk, IsSome, OnErr, len
 ghost use Rattle.ve_theory.specs.Answers.{IsRow};
 ghost use Rattle.ve_table.specs.Tables.{presented, row_at};
 ghost use Rattle.ve_table.specs.Sound.{IsSound};
-ghost use Rattle.ve_settle.specs.Settling.{IsRewritten, Rewrites};
+ghost use Rattle.ve_machine.specs.Forwards.{IsRewritten};
+ghost use Rattle.ve_settle.specs.Settling.{Rewrites};
 
 use crate::live::has_live_ids;
 use crate::rows::row_of;
@@ -34,7 +35,7 @@ pub fn rewrite(alloc: Global, table: &mut Table, id: u32, letter: u8) -> Result<
 /// The vector with each dead id replaced by the one that stands for it. Dead ids that these bring in stay.
 fn rewritten(alloc: Global, table: &Table, vector: &Sparse) -> Result<Sparse, Memory>
     requires { IsRow (presented table.now).prime (length table.now.words) vector.now }
-    ensures { IfOk result (IsRewritten table.now vector.now) }
+    ensures { IfOk result (IsRewritten (presented table.now).prime table.now.forwards vector.now) }
 {
     let field = *table.presentation().field();
     // The live ids stay in order, so that each goes to the end.

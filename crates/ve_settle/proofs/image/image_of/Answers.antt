@@ -5,7 +5,7 @@ use Rattle.ve_theory.specs.Combinations.{extended, scaled, IsReducedOf}
 use Rattle.ve_theory.proofs.Sums.{prime-large, SameWeights-sym, SameWeights-trans, SameWeights_of, difference-nil, scaled-one, Alike_from_weights}
 use Rattle.ve_vec.specs.Tracing.{row_or_zero}
 use Rattle.ve_table.specs.Tables.{presented, row_at}
-use Rattle.ve_settle.specs.Settling.{stand_in, image_difference}
+use Rattle.ve_machine.specs.Forwards.{stand_in, image_difference}
 use Rattle.ve_settle.proofs.Vectors.{part_more, reduced_same, term_all, term_residue}
 use Rattle.ve_settle.proofs.Forwards.{dead_stands}
 use Rattle.ve_settle.proofs.Images.{due_below, image_derived, image_row, taken_more}
@@ -73,9 +73,9 @@ loop-at-preserved c =
 pub returns-clause-difference : goal.returns-clause-difference
 returns-clause-difference c =
     let dead_is : slice_get c.args.table.now.forwards c.args.dead ≡ Some (Some c.unwrap-forward.result.now) = c.forward.ensures ∙ ap (λ o. Some (option_copied o)) c.unwrap-forward.ensures in
-    let stands : stand_in c.args.table.now c.args.dead ≡ c.unwrap-forward.result.now = dead_stands c.args.table.now c.args.dead _ dead_is in
+    let stands : stand_in c.args.table.now.forwards c.args.dead ≡ c.unwrap-forward.result.now = dead_stands c.args.table.now c.args.dead _ dead_is in
     let whole : take c.loop-at.at c.unwrap-forward.result.now ≡ c.unwrap-forward.result.now = take_all _ _ (omega (arith, c.loop-at-test.false, c.len-at-end.ensures)) in
-    let image : IsReducedOf ◌<◌ nat_eq (presented c.args.table.now).prime c.loop-at.image (image_difference c.args.table.now c.args.dead c.args.letter) =
+    let image : IsReducedOf ◌<◌ nat_eq (presented c.args.table.now).prime c.loop-at.image (image_difference (presented c.args.table.now).prime (row_at c.args.table.now) c.args.table.now.forwards c.args.dead c.args.letter) =
     record { reduced = c.loop-at.invariant.reduced; alike = Alike_from_weights nat_eq (rw stands (rw whole at c.loop-at.invariant.sum)) } in
     image
 
@@ -84,9 +84,9 @@ returns-clause-row c =
     let sound = c.presentation.ensures.sound in
     let order = c.words_are_ordered.ensures (presented c.args.table.now) sound.valid.presentation in
     let dead_is : slice_get c.args.table.now.forwards c.args.dead ≡ Some (Some c.unwrap-forward.result.now) = c.forward.ensures ∙ ap (λ o. Some (option_copied o)) c.unwrap-forward.ensures in
-    let stands : stand_in c.args.table.now c.args.dead ≡ c.unwrap-forward.result.now = dead_stands c.args.table.now c.args.dead _ dead_is in
+    let stands : stand_in c.args.table.now.forwards c.args.dead ≡ c.unwrap-forward.result.now = dead_stands c.args.table.now c.args.dead _ dead_is in
     let whole : take c.loop-at.at c.unwrap-forward.result.now ≡ c.unwrap-forward.result.now = take_all _ _ (omega (arith, c.loop-at-test.false, c.len-at-end.ensures)) in
-    let image : IsReducedOf ◌<◌ nat_eq (presented c.args.table.now).prime c.loop-at.image (image_difference c.args.table.now c.args.dead c.args.letter) =
+    let image : IsReducedOf ◌<◌ nat_eq (presented c.args.table.now).prime c.loop-at.image (image_difference (presented c.args.table.now).prime (row_at c.args.table.now) c.args.table.now.forwards c.args.dead c.args.letter) =
     record { reduced = c.loop-at.invariant.reduced; alike = Alike_from_weights nat_eq (rw stands (rw whole at c.loop-at.invariant.sum)) } in
     image_row c.args.table.now sound order c.reach_adds_up.ensures c.args.dead c.args.letter ((sound.due c.args.dead c.args.letter).0 c.requires.row) c.row_of.result.now c.unwrap-forward.result.now c.row_of.ensures
     (sound.forwards _ _ dead_is) stands c.loop-at.image image
@@ -96,9 +96,9 @@ returns-clause-derived c =
     let sound = c.presentation.ensures.sound in
     let order = c.words_are_ordered.ensures (presented c.args.table.now) sound.valid.presentation in
     let dead_is : slice_get c.args.table.now.forwards c.args.dead ≡ Some (Some c.unwrap-forward.result.now) = c.forward.ensures ∙ ap (λ o. Some (option_copied o)) c.unwrap-forward.ensures in
-    let stands : stand_in c.args.table.now c.args.dead ≡ c.unwrap-forward.result.now = dead_stands c.args.table.now c.args.dead _ dead_is in
+    let stands : stand_in c.args.table.now.forwards c.args.dead ≡ c.unwrap-forward.result.now = dead_stands c.args.table.now c.args.dead _ dead_is in
     let whole : take c.loop-at.at c.unwrap-forward.result.now ≡ c.unwrap-forward.result.now = take_all _ _ (omega (arith, c.loop-at-test.false, c.len-at-end.ensures)) in
-    let image : IsReducedOf ◌<◌ nat_eq (presented c.args.table.now).prime c.loop-at.image (image_difference c.args.table.now c.args.dead c.args.letter) =
+    let image : IsReducedOf ◌<◌ nat_eq (presented c.args.table.now).prime c.loop-at.image (image_difference (presented c.args.table.now).prime (row_at c.args.table.now) c.args.table.now.forwards c.args.dead c.args.letter) =
     record { reduced = c.loop-at.invariant.reduced; alike = Alike_from_weights nat_eq (rw stands (rw whole at c.loop-at.invariant.sum)) } in
     image_derived c.args.table.now sound order c.reach_adds_up.ensures c.args.dead c.args.letter ((sound.due c.args.dead c.args.letter).0 c.requires.row) c.row_of.result.now c.unwrap-forward.result.now c.row_of.ensures
     (sound.forwards _ _ dead_is) stands c.loop-at.image image

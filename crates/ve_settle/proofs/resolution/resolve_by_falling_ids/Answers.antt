@@ -31,7 +31,7 @@ loop-term-init c =
       field = c.in_ok-push_scaled.ensures.field ∙ field_is;
       reduced = c.zero-resolved.ensures.fits p;
       live = rw c.zero-resolved.ensures.value (All-nil (λ (t : ℕ × ℕ). IsLive c.args.table.now t.0));
-      forwarding = nothing_forwarded c.args.table.now c.args.vector.now _ (positive_prime c.args.table.now sound)
+      forwarding = nothing_forwarded p c.args.table.now.forwards c.args.vector.now _ (positive_prime c.args.table.now sound)
           (SameWeights-sym (SameWeights-trans (SameWeights_of (ap (λ w. w ++ left_of c.push_scaled.new.self) c.zero-resolved.ensures.value)) (SameWeights-trans pushed (scaled-one p c.args.vector.now))));
       ids = λ among kept all. (
         rw c.zero-resolved.ensures.value (All-nil (λ (t : ℕ × ℕ). IsTrue (among t.0))),
@@ -71,7 +71,7 @@ loop-term-preserved-in-Continue-branch-2 c =
       field = c.in_ok-push_scaled-in-Some-forward.ensures.field ∙ field_is;
       reduced = c.loop-term.invariant.reduced;
       live = c.loop-term.invariant.live;
-      forwarding = done_dead c.args.table.now c.args.vector.now c.loop-term.resolved _ _ _ c.in-Some-forward.forward.now c.in-Some.term.id c.in-Some.term.coef
+      forwarding = done_dead p c.args.table.now.forwards c.args.vector.now c.loop-term.resolved _ _ _ c.in-Some-forward.forward.now c.in-Some.term.id c.in-Some.term.coef
           (positive_prime c.args.table.now c.presentation.ensures.sound) left_is (dead_stands c.args.table.now c.in-Some.term.id _ dead_is) new_is c.loop-term.invariant.forwarding;
       ids = λ among kept all.
           let parts = c.loop-term.invariant.ids among kept all in
@@ -100,7 +100,7 @@ loop-term-preserved c =
       live = reduced_keys (IsLive c.args.table.now) p _ _ sum
           (All-append (λ (t : ℕ × ℕ). IsLive c.args.table.now t.0) c.loop-term.resolved _ c.loop-term.invariant.live
           (All-scaled (IsLive c.args.table.now) c.in-Some.term.coef (unit c.in-Some.term.id) (All-unit (IsLive c.args.table.now) c.in-Some.term.id c.in-None.ensures)));
-      forwarding = done_live c.args.table.now c.args.vector.now c.loop-term.resolved _ _ _ c.in-Some.term.id c.in-Some.term.coef left_is (reduced_same p _ _ sum) c.loop-term.invariant.forwarding;
+      forwarding = done_live p c.args.table.now.forwards c.args.vector.now c.loop-term.resolved _ _ _ c.in-Some.term.id c.in-Some.term.coef left_is (reduced_same p _ _ sum) c.loop-term.invariant.forwarding;
       ids = λ among kept all.
           let parts = c.loop-term.invariant.ids among kept all in
           let taken = c.in-Some.ensures.ids among parts.1 in (

@@ -3,7 +3,7 @@ use Rattle.ve_theory.specs.Combinations.{difference, IsReduced}
 use Rattle.ve_vec.specs.Vectors.{AllIds}
 use Rattle.ve_table.specs.Tables.{presented}
 use Rattle.ve_table.specs.Sound.{HasLiveIds}
-use Rattle.ve_settle.specs.Settling.{IsForwarding}
+use Rattle.ve_machine.specs.Forwards.{IsForwarding}
 use Rattle.ve_settle.specs.Falling.{left_of}
 use Rattle.ve_settle.proofs.Resolving.{ceiling, IsKept}
 use Rattle.ve_settle.proofs.resolution.resolve_by_falling_ids.Given as goal
@@ -14,7 +14,7 @@ invariant-loop-term l = record {
   field : l.left.field ≡ (presented l.table).prime;
   reduced : IsReduced ◌<◌ (presented l.table).prime l.resolved;
   live : HasLiveIds l.table l.resolved;
-  forwarding : IsForwarding l.table (difference (presented l.table).prime l.vector (l.resolved ++ left_of l.left));
+  forwarding : IsForwarding (presented l.table).prime l.table.forwards (difference (presented l.table).prime l.vector (l.resolved ++ left_of l.left));
   ids : (among : ℕ → Bool) → IsKept l.table among → AllIds among l.vector → AllIds among l.resolved × AllIds among (left_of l.left);
 }
 

@@ -1,7 +1,6 @@
 use Rattle.std.proofs.Common.{ℕ, IsTrue, nat_eq}
 use Rattle.std.proofs.lemmas.List.Elements.{All-append}
 use Rattle.ve_theory.proofs.Sums.{Alike_from_weights, weights_from_Alike, Decides-nat_eq}
-use Rattle.ve_vec.proofs.ReducedLists.{IsReduced-drop}
 use Rattle.ve_settle.proofs.Vectors.{reduced_same}
 use Rattle.ve_settle.proofs.SortedTerms.{parts_all, pushed_before, pushed_behind}
 use Rattle.ve_settle.proofs.falling.FallingSum.push_scaled.Goals as goal
@@ -18,14 +17,14 @@ returns-then-len-le-SHORT-clause-ids c =
     All-append (λ (t : ℕ × ℕ). IsTrue (among t.0)) _ _ parts.0 (c.in_ok-push_scaled.ensures.ids among parts.1 of_vector)
 
 pub add_scaled-requires-clause-fits : goal.add_scaled-requires-clause-fits
-add_scaled-requires-clause-fits c = rw c.in_ok-sorted.ensures (IsReduced-drop _ _ _ c.args.self.now.reduced)
+add_scaled-requires-clause-fits c = c.in_ok-sorted.ensures.fits _ c.args.self.now.reduced
 
 pub returns-clause-sum : goal.returns-clause-sum
 returns-clause-sum c =
-    Alike_from_weights nat_eq (pushed_before _ _ _ _ _ (reduced_same _ _ _ (rw c.in_ok-sorted.ensures at c.in_ok-add_scaled.ensures.ok)))
+    Alike_from_weights nat_eq (pushed_before _ _ _ _ _ (reduced_same _ _ _ (rw c.in_ok-sorted.ensures.rest at c.in_ok-add_scaled.ensures.ok)))
 
 pub returns-clause-ids : goal.returns-clause-ids
 returns-clause-ids c =
     λ among all of_vector.
     let parts = parts_all (λ t. IsTrue (among t.0)) _ _ all in
-    All-append (λ (t : ℕ × ℕ). IsTrue (among t.0)) _ _ (c.in_ok-add_scaled.ensures.ids among (rw c.in_ok-sorted.ensures parts.0) of_vector) parts.1
+    All-append (λ (t : ℕ × ℕ). IsTrue (among t.0)) _ _ (c.in_ok-add_scaled.ensures.ids among (rw c.in_ok-sorted.ensures.rest parts.0) of_vector) parts.1

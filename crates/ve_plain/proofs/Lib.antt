@@ -1,0 +1,8 @@
+pub mod Vanishing
+pub mod Lists
+pub mod Going
+pub mod Working
+pub mod Known
+pub mod Settling
+pub mod Reaches
+pub mod Jobs

@@ -1,0 +1,12 @@
+//! A level's work on one thread.
+#![tactic(auto)]
+
+mod closing;
+mod ids;
+mod images;
+mod relations;
+mod sound;
+mod tracing;
+mod work;
+
+pub use closing::close_level;

@@ -1,0 +1,66 @@
+-- What can stand in the place of a product's or a generator's vector.
+use Rattle.std.proofs.Common.{◌≡◌, ℕ, ◌<◌, ◌≤◌, inl, inr, [], ◌∷◌, length, All, sym, subst, arith}
+use Rattle.std.proofs.lemmas.List.Elements.{All-nil, All-cons, All-head, All-weaker}
+use Rattle.ve_theory.specs.Combinations.{unit, difference, IsReduced}
+use Rattle.ve_theory.specs.Words.{Word}
+use Rattle.ve_theory.specs.Derivations.{DerivedWithin}
+use Rattle.ve_theory.specs.Answers.{Row, IsNotAfter}
+use Rattle.ve_theory.specs.Laws.{IsTotalOrder, WordsAreOrdered}
+use Rattle.ve_theory.proofs.Sums.{differences-append}
+use Rattle.ve_theory.proofs.Reduced.{All_from_AllBefore}
+use Rattle.ve_theory.proofs.DerivedElements.{DerivedWithin-alike}
+use Rattle.ve_table.specs.Tables.{ActionTable, presented, word_at, element_of}
+use Rattle.ve_table.specs.Sound.{IsSound, IsVectorOf}
+use Rattle.ve_machine.specs.Forwards.{IsResolved}
+use Rattle.ve_machine.specs.Laws.{ForwardingsAreASpace, ResolutionsExist}
+use Rattle.ve_settle.proofs.Derived.{DerivedWithin-append}
+use Rattle.ve_settle.proofs.Forwards.{positive_prime}
+use Rattle.ve_settle.proofs.Order.{lower_not_after}
+use Rattle.ve_settle.proofs.Resolving.{resolved_derived}
+use Rattle.ve_settle.proofs.UniqueResolutions.{forwardings_resolve_to_zero, resolutions_are_unique}
+
+-- what holds of the ids of v, and of all lower ids, holds of those of w
+abbrev pub HasNoHigherIds : Row → Row → Type 1
+HasNoHigherIds v w = (Q : ℕ → Type 0) → ((i j : ℕ) → i ≤ j → Q j → Q i) → All (λ t. Q t.0) v → All (λ t. Q t.0) w
+
+module _ (T : ActionTable) (sound : IsSound T) (order : IsTotalOrder (presented T)) where
+  not_after_trans : (u v w : Word) → IsNotAfter (presented T) u v → IsNotAfter (presented T) v w → IsNotAfter (presented T) u w
+  not_after_trans u v w (inl one) (inl other) = inl (order.transitive u v w one other)
+  not_after_trans u v w (inl one) (inr same) = subst (λ x. IsNotAfter (presented T) u x) same (inl one)
+  not_after_trans u v w (inr same) other = subst (λ x. IsNotAfter (presented T) x w) (sym same) other
+
+  -- a vector that differs from the word's by what is derived, and has no higher ids
+  pub vector_kept : (word : Word) (v w : Row) → IsVectorOf T word v → IsReduced ◌<◌ (presented T).prime w
+      → DerivedWithin (presented T) T.level (difference (presented T).prime (element_of T v) (element_of T w)) → HasNoHigherIds v w → IsVectorOf T word w
+  vector_kept word v w old reduced derived lower_ids = record {
+    stands = record {
+      row = (reduced, lower_ids (λ n. n < length T.words) (λ i j le within. omega (arith, le, within)) old.stands.row.1);
+      derived = DerivedWithin-alike (presented T) T.level
+          (differences-append (presented T).prime (unit word) (element_of T v) (element_of T w) (positive_prime T sound))
+          (DerivedWithin-append (presented T) T.level old.stands.derived derived);
+    };
+    not_after = lower_ids (λ n. (n < length T.words) × IsNotAfter (presented T) (word_at T n) word)
+        (λ i j le fits. (omega (arith, le, fits.0), not_after_trans (word_at T i) (word_at T j) word (lower_not_after T sound order i j le fits.0) fits.1))
+        old.not_after;
+  }
+
+-- the resolved form of a vector has no higher ids
+resolved_ids : ForwardingsAreASpace → ResolutionsExist → (T : ActionTable) → IsSound T → (v w : Row) → IsReduced ◌<◌ (presented T).prime v → All (λ t. t.0 < length T.words) v
+    → IsResolved (presented T).prime T.forwards v w → HasNoHigherIds v w
+unfolding IsReduced
+resolved_ids space exist T sound [] w reduced within resolved Q lower all =
+    let nothing : w ≡ [] = (forwardings_resolve_to_zero space T [] w sound resolved).0 (space (presented T).prime T.forwards (positive_prime T sound)).empty in
+    subst (λ u. All (λ t. Q t.0) u) (sym nothing) (All-nil (λ (t : ℕ × ℕ). Q t.0))
+resolved_ids space exist T sound (t ∷ v) w reduced within resolved Q lower all =
+    let found = exist T (t ∷ v) sound within in
+    let same : found.0 ≡ w = resolutions_are_unique T (t ∷ v) found.0 w sound found.1 resolved in
+    let below : All (λ s. s.0 ≤ t.0) v =
+    All-weaker (λ (s : ℕ × ℕ). s.0 < t.0) (λ (s : ℕ × ℕ). s.0 ≤ t.0) (λ s less. omega (arith, less)) v (All_from_AllBefore ◌<◌ t.0 v reduced.2) in
+    All-weaker (λ (s : ℕ × ℕ). s.0 ≤ t.0) (λ (s : ℕ × ℕ). Q s.0) (λ s le. lower s.0 t.0 le (All-head (λ (s : ℕ × ℕ). Q s.0) t v all)) w
+    (subst (λ u. All (λ s. s.0 ≤ t.0) u) same (found.2 t.0 (All-cons (λ (s : ℕ × ℕ). s.0 ≤ t.0) t v (omega arith) below)))
+
+pub resolutions_keep_words : WordsAreOrdered → ForwardingsAreASpace → ResolutionsExist
+    → (T : ActionTable) (word : Word) (v w : Row) → IsSound T → IsVectorOf T word v → IsResolved (presented T).prime T.forwards v w → IsVectorOf T word w
+resolutions_keep_words orders space exist T word v w sound old resolved =
+    vector_kept T sound (orders (presented T) sound.valid.presentation) word v w old resolved.reduced (resolved_derived T sound v w resolved)
+    (resolved_ids space exist T sound v w old.stands.row.0 old.stands.row.1 resolved)
