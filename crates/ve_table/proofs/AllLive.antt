@@ -1,15 +1,28 @@
 -- Tables without dead ids.
-use Rattle.std.proofs.Common.{◌≡◌, ℕ, ◌<◌, Some, None, List, [], ◌∷◌, length, get_or, refl, sym, ap, ◌∙◌, arith}
-use Rattle.std.specs.Prelude.{Option, All}
-use Rattle.std.specs.Option.{is_none}
+use Rattle.std.proofs.Common.{◌≡◌, ℕ, ◌<◌, ◌+◌, not, inl, inr, true, false, cond, ltb, map, ap₂, Some, None, List, [], ◌∷◌, length, get_or, refl, sym, ap, ◌∙◌, arith}
+use Rattle.std.specs.Prelude.{Option, All, nat_lt, position, slice_get}
+use Rattle.std.specs.Option.{is_none, is_some}
+use Rattle.std.specs.List.{position_or_len}
+use Rattle.std.proofs.lemmas.Bool.{cases_Bool, cond-true, ltb-false}
+use Rattle.std.proofs.lemmas.List.Quantifiers.{position-Some}
 use Rattle.std.proofs.lemmas.Option.{slice_get-get_or}
+use Rattle.std.proofs.lemmas.List.{length-map}
 use Rattle.std.proofs.lemmas.List.Elements.{All-nil, All-cons}
-use Rattle.std.proofs.lemmas.List.Sums.{count_by-le-length}
+use Rattle.std.proofs.lemmas.List.Sums.{count_by-le-length, fails_before_first}
 use Rattle.ve_theory.specs.Answers.{Row}
 use Rattle.ve_table.specs.Tables.{ActionTable, IsLive, live_words}
+use Rattle.ve_table.specs.declared.entry.Entry.{Entry}
 use Rattle.ve_table.specs.Sound.{IsSound, NamesLiveIds}
 use Rattle.ve_table.proofs.Dropping.{live_count}
 use Rattle.ve_table.proofs.LiveIds.{alive, alive-none, alive-some}
+
+not_some : (f : Option Row) → is_some f ≡ false → f ≡ None
+not_some None is = refl
+not_some (Some v) is = absurd (let bad : true ≡ false = is in cc)
+
+some_of : (f : Option Row) → is_some f ≡ true → (v : Row) × (f ≡ Some v)
+some_of None is = absurd (let bad : false ≡ true = is in cc)
+some_of (Some v) is = (v, refl)
 
 all_none : (fs : List (Option Row)) → alive fs ≡ length fs → All (λ f. f ≡ None) fs
 all_none [] is = All-nil (λ (f : Option Row). f ≡ None)
@@ -30,3 +43,32 @@ names_live T sound is = record {
     at b lt =
         let inside : b < length T.forwards = omega (arith, lt, sound.one_forward_each) in
         slice_get-get_or T.forwards b None inside ∙ ap Some (none_dead T sound is b None inside)
+
+-- the first dead id
+
+pub none_first : (fs : List (Option Row)) → position is_some fs ≡ None → All (λ f. f ≡ None) fs
+none_first fs is k d lt =
+    elim (cases_Bool (nat_lt (position_or_len is_some fs) (length fs))) [
+      | inl before ↦ absurd (let there : position is_some fs ≡ Some (position_or_len is_some fs) = cond-true _ _ _ before in cc)
+      | inr past ↦ not_some (get_or fs k d) (fails_before_first is_some fs k d (omega (arith, lt, ltb-false _ _ past)))
+    ]
+
+pub dead_first : (fs : List (Option Row)) (i : ℕ) → position is_some fs ≡ Some i → (v : Row) × (slice_get fs i ≡ Some (Some v))
+dead_first fs i found =
+    let at = position-Some is_some fs i None found in
+    let there = some_of (get_or fs i None) at.1 in
+    (there.0, slice_get-get_or fs i None at.0 ∙ ap Some there.1)
+
+pub live_before : (fs : List (Option Row)) (i b : ℕ) → position is_some fs ≡ Some i → b < i → slice_get fs b ≡ Some None
+live_before fs i b found lt =
+    let at = position-Some is_some fs i None found in
+    slice_get-get_or fs b None (omega (arith, lt, at.0)) ∙ ap Some (not_some (get_or fs b None) (at.2 b lt))
+
+first_from : (es : List Entry) → position_or_len (λ (e : Entry). is_some e.forward) es ≡ position_or_len is_some (map (λ (e : Entry). e.forward) es)
+first_from [] = refl
+first_from (e ∷ es) = ap (λ n. cond (not (is_some e.forward)) (1 + n) 0) (first_from es)
+
+pub first_is : (entries es : List Entry) (first : Option ℕ) → entries ≡ es → first ≡ position (λ (e : Entry). is_some e.forward) entries → first ≡ position is_some (map (λ (e : Entry). e.forward) es)
+first_is entries es first same is =
+    is ∙ ap (position (λ (e : Entry). is_some e.forward)) same
+    ∙ ap₂ (λ n m. cond (ltb n m) (Some n) None) (first_from es) (sym (length-map es (λ (e : Entry). e.forward)))

@@ -153,7 +153,7 @@ no_pairs : {X : Type 0} (R : X → X → Type 0) → AllPairs R []
 no_pairs R i j d lt within = absurd (omega (arith, within))
 
 -- what stands in a list
-element : {X : Type 0} (xs : List X) (k : ℕ) → k < length xs → X
+pub element : {X : Type 0} (xs : List X) (k : ℕ) → k < length xs → X
 element [] k lt = absurd (omega (arith, lt))
 element (x ∷ xs) k lt = x
 

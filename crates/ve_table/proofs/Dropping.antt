@@ -1,14 +1,14 @@
 -- The live ids alone, numbered anew.
 use Rattle.std.proofs.Common.{◌≡◌, ℕ, zero, suc, ◌+◌, ◌<◌, ◌≤◌, ◌⊎◌, inl, inr, Some, None, List, [], ◌∷◌, ◌++◌, length, map, take, get_or, refl, sym, ap, ap₂, subst, ◌∙◌, arith}
-use Rattle.std.specs.Prelude.{Option, IsSome, slice_get, ◌↔◌}
+use Rattle.std.specs.Prelude.{Option, All, IsSome, slice_get, ◌↔◌}
 use Rattle.std.specs.Option.{is_some, option_map}
 use Rattle.std.proofs.lemmas.Bool.{cases_lt}
 use Rattle.std.proofs.lemmas.Option.{slice_get_within, slice_get-map, get_or_from_slice_get}
 use Rattle.std.proofs.lemmas.List.{length-map, length-take, get_or_past, get_or_default}
-use Rattle.std.proofs.lemmas.List.Elements.{All-head, All-tail, All-map}
+use Rattle.std.proofs.lemmas.List.Elements.{All-nil, All-cons, All-head, All-tail, All-map}
 use Rattle.ve_theory.specs.Combinations.{unit, scaled, extended, AllBefore, IsReduced, difference}
 use Rattle.ve_theory.specs.Words.{Word, generator, times}
-use Rattle.ve_theory.specs.Presentations.{reach, step, before, IsWord}
+use Rattle.ve_theory.specs.Presentations.{letter_count, reach, step, before, IsWord}
 use Rattle.ve_theory.specs.Derivations.{DerivedWithin}
 use Rattle.ve_theory.specs.Answers.{Row, IsNotAfter}
 use Rattle.ve_table.specs.Tables.{ActionTable, presented, word_at, row_at, element_of, IsLive, IsDue, of_live, live_words, live_below}
@@ -60,7 +60,7 @@ number_grows T a b same live lt = omega (arith, number_is T a same, number_is T 
 pub id_within : (T : ActionTable) (b : ℕ) → length T.forwards ≡ length T.words → IsLive T b → b < length T.words
 id_within T b same live = omega (arith, same, slice_get_within T.forwards b None live)
 
-row_kept : (T : ActionTable) (b x : ℕ) → length T.forwards ≡ length T.words → length T.rows ≡ length T.words → IsLive T b
+pub row_kept : (T : ActionTable) (b x : ℕ) → length T.forwards ≡ length T.words → length T.rows ≡ length T.words → IsLive T b
     → row_at (without_dead T) (live_below T b) x ≡ option_map (renumbered T) (row_at T b x)
 row_kept T b x same rows live =
     let there : get_or (of_live T.forwards T.rows) (live_below T b) [] ≡ get_or T.rows b [] =
@@ -117,8 +117,15 @@ no_dead ys b v found =
     no_some : (v : Row) → None ≡ Some v → ⊥
     no_some v bad = cc
 
-pub sound_dropped : (T : ActionTable) → IsSound T → NamesLiveIds T → length T.rows ≡ length T.words → IsSound (without_dead T)
-sound_dropped T sound live rows = record {
+all_live_rows : {X : Type 0} (P : X → Type 0) (fs : List (Option Row)) (xs : List X) → All P xs → All P (of_live fs xs)
+unfolding of_live
+all_live_rows P [] xs all = All-nil P
+all_live_rows P (f ∷ fs) [] all = All-nil P
+all_live_rows P (None ∷ fs) (x ∷ xs) all = All-cons P x (of_live fs xs) (All-head P x xs all) (all_live_rows P fs xs (All-tail P x xs all))
+all_live_rows P (Some v ∷ fs) (x ∷ xs) all = all_live_rows P fs xs (All-tail P x xs all)
+
+pub sound_dropped : (T : ActionTable) → IsSound T → NamesLiveIds T → IsSound (without_dead T)
+sound_dropped T sound live = record {
   valid = sound.valid;
   words = λ n d lt.
       let old = old_id T n same lt in
@@ -140,6 +147,12 @@ sound_dropped T sound live rows = record {
       let is_live = live.origins shorter.0 old.0 x old.1 (get_or_default T.words old.0 (generator 0) (times w x) within ∙ here ∙ ap (λ v. times v x) (sym word)) shorter.1 in
       (live_below T shorter.0, number_in T shorter.0 same is_live, word_kept T shorter.0 w same is_live ∙ shorter.2);
   one_forward_each = length-map (live_words T) none;
+  one_row_list_each =
+      length-map (of_live T.forwards T.rows) (map (option_map (renumbered T))) ∙ length-of_live T.forwards T.rows (omega (arith, same, rows)) ∙ sym (live_count T same);
+  one_place_each =
+      All-map (λ (row : List (Option Row)). length row ≡ letter_count (presented T)) (map (option_map (renumbered T))) (of_live T.forwards T.rows)
+      (λ k d lt. length-map (get_or (of_live T.forwards T.rows) k d) (option_map (renumbered T))
+      ∙ all_live_rows (λ (row : List (Option Row)). length row ≡ letter_count (presented T)) T.forwards T.rows sound.one_place_each k d lt);
   one_image_each = length-map T.images (renumbered T) ∙ sound.one_image_each;
   forwards = λ b v found. absurd (no_dead (live_words T) b v found);
   due = λ n x. due n x (cases_lt n (length (live_words T)));
@@ -152,6 +165,9 @@ sound_dropped T sound live rows = record {
   where
     same : length T.forwards ≡ length T.words
     same = sound.one_forward_each
+
+    rows : length T.rows ≡ length T.words
+    rows = sound.one_row_list_each
 
     none : Word → Option Row
     none w = None

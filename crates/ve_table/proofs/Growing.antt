@@ -1,11 +1,9 @@
 -- Lists of a table with further births.
-use Rattle.std.proofs.Common.{◌≡◌, ◌≢◌, ℕ, zero, suc, ◌+◌, ◌-◌, ◌<◌, ◌≤◌, ◌⊎◌, inl, inr, Some, None, List, [], ◌∷◌, ◌++◌, length, map, get_or, refl, sym, ap, ap₂, subst, ◌∙◌, arith}
+use Rattle.std.proofs.Common.{◌≡◌, ◌≢◌, ℕ, zero, suc, ◌+◌, ◌*◌, ◌-◌, ◌<◌, ◌≤◌, ◌⊎◌, inl, inr, Some, None, List, [], ◌∷◌, ◌++◌, length, map, take, get_or, refl, sym, ap, ap₂, subst, ◌∙◌, arith}
 use Rattle.std.specs.Prelude.{Option, All, AllPairs, Contains, slice_get}
 use Rattle.std.proofs.Math.ListN.{set}
-use Rattle.std.proofs.Math.Seq.{map-set_same}
 use Rattle.std.proofs.lemmas.Bool.{cases_eq, cases_lt}
-use Rattle.std.proofs.lemmas.Option.{slice_get_within, slice_get-get_or, get_or_from_slice_get}
-use Rattle.std.proofs.lemmas.List.{append-nil, append_assoc, map-append, map-set, length-map, length-set, length_push, get_or_append_left, get_or-append_right, get_or-set_same, get_or-set_other, get_or_past, get_or-map, nil_from_length}
+use Rattle.std.proofs.lemmas.List.{length-append, length-take, take_more, map_push, append_assoc, map-append, length-map, length-set, length_push, get_or_append_left, get_or-append_right, get_or-set_same, get_or-set_other, get_or_past}
 use Rattle.std.proofs.lemmas.List.Elements.{All-head, All-tail, All-set, All-push}
 use Rattle.ve_theory.specs.Combinations.{unit}
 use Rattle.ve_theory.specs.Words.{Word, generator, times}
@@ -15,12 +13,11 @@ use Rattle.ve_table.specs.declared.origin.Origin.TheVariants.{Root, Child}
 use Rattle.ve_table.specs.declared.entry.Entry.{Entry}
 use Rattle.ve_table.specs.declared.birth.Birth.{Birth}
 use Rattle.ve_table.specs.Books.{IsOriginOf}
-use Rattle.ve_table.specs.Kept.{places}
-use Rattle.ve_table.specs.Growth.{IsDefined, AreDefined, none, next}
-use Rattle.ve_table.proofs.Opening.{no_row, no_places}
-use Rattle.ve_table.proofs.Setting.{row_in, places_full}
+use Rattle.ve_table.specs.Rows.{with_births_from}
+use Rattle.ve_table.specs.Growth.{entry_of_birth}
+use Rattle.ve_table.proofs.Listed.{row_in, Agree, set_agrees, push_agrees}
+use Rattle.ve_table.proofs.Opening.{no_row}
 use Rattle.ve_table.proofs.Merging.{contains_first, contains_later, first_before, rest_rises}
-use Rattle.ve_table.proofs.Room.{defined_count, defined_keeps, rows_counted, lengths_kept}
 
 -- the rows of a table of n ids after further births
 abbrev pub rows_with : {X : Type 0} → List X → ℕ → List (List (Option Row)) → List Birth → List (List (Option Row))
@@ -51,6 +48,10 @@ module _ {X : Type 0} (names : List X) where
     where
       empty : X → Option Row
       empty x = None
+
+  pub all_wide : (n : ℕ) (rows : List (List (Option Row))) (bs : List Birth) → HasWideRows names n rows bs → All (λ (row : List (Option Row)). length row ≡ length names) (rows_with names n rows bs)
+  all_wide n rows [] has = has.wide
+  all_wide n rows (b ∷ bs) has = all_wide (n + 1) (after_birth n rows b) bs (wide_after n rows b bs has)
 
   row_of_birth : (n : ℕ) (rows : List (List (Option Row))) (b : Birth) (bs : List Birth) → HasWideRows names n rows (b ∷ bs) → row_in (after_birth n rows b) b.parent b.letter ≡ Some (unit n)
   row_of_birth n rows b bs has =
@@ -106,156 +107,76 @@ module _ {X : Type 0} (names : List X) where
       let rest = length_rows (n + 1) (after_birth n rows b) bs in
       omega (arith, rest, length_push (set rows b.parent (set (get_or rows b.parent []) b.letter (Some (unit n)))) (map (λ _. None) names), length-set rows b.parent (set (get_or rows b.parent []) b.letter (Some (unit n))))
 
--- what entries have after births were defined
+-- the list of rows with the units of births
 
-pub defined_forwards : (reach : ℕ) (bs : List Birth) (es gs : List Entry) → AreDefined reach bs es gs → map (λ (e : Entry). e.forward) gs ≡ map (λ (e : Entry). e.forward) es ++ map (λ _. None) bs
-defined_forwards reach _ _ _ (none es) = sym (append-nil (map (λ (e : Entry). e.forward) es))
-defined_forwards reach _ _ _ (next b bs old between new is rest) =
-    defined_forwards reach bs between new rest
-    ∙ ap (λ l. l ++ map (λ _. None) bs)
-    (ap (map (λ (e : Entry). e.forward)) is.items ∙ map-append (λ (e : Entry). e.forward) (set old b.parent is.grown) (is.child ∷ [])
-    ∙ ap₂ (λ l f. l ++ f ∷ []) (map-set_same (λ (e : Entry). e.forward) old b.parent is.grown is.parent (is.forward ∙ ap (λ (e : Entry). e.forward) (sym (get_or_from_slice_get old b.parent is.parent is.parent is.parent_is)))) is.child_forward)
-    ∙ append_assoc (map (λ (e : Entry). e.forward) old) (None ∷ []) (map (λ _. None) bs)
+pub count_with_births : (n first : ℕ) (rows : List (Option Row)) (bs : List Birth) → length (with_births_from n first rows bs) ≡ length rows
+unfolding with_births_from
+count_with_births n first rows [] = refl
+count_with_births n first rows (b ∷ bs) = count_with_births n (first + 1) (set rows (b.parent * n + b.letter) (Some (unit first))) bs ∙ length-set rows (b.parent * n + b.letter) (Some (unit first))
+
+pub with_births_push : (n first : ℕ) (rows : List (Option Row)) (bs : List Birth) (b : Birth)
+    → with_births_from n first rows (bs ++ b ∷ []) ≡ set (with_births_from n first rows bs) (b.parent * n + b.letter) (Some (unit (first + length bs)))
+unfolding with_births_from
+with_births_push n first rows [] b = ap (λ m. set rows (b.parent * n + b.letter) (Some (unit m))) (let e : first ≡ first + 0 = omega arith in e)
+with_births_push n first rows (c ∷ bs) b = with_births_push n (first + 1) (set rows (c.parent * n + c.letter) (Some (unit first))) bs b ∙ ap (λ m. set (with_births_from n (first + 1) (set rows (c.parent * n + c.letter) (Some (unit first))) bs) (b.parent * n + b.letter) (Some (unit m))) (omega arith)
+
+pub no_births : (n first : ℕ) (rows : List (Option Row)) → rows ≡ with_births_from n first rows []
+unfolding with_births_from
+no_births n first rows = refl
+
+pub one_more_unit : (n first i : ℕ) (rows : List (Option Row)) (bs : List Birth) (d : Birth) → i < length bs
+    → set (with_births_from n first rows (take i bs)) ((get_or bs i d).parent * n + (get_or bs i d).letter) (Some (unit (first + i))) ≡ with_births_from n first rows (take (i + 1) bs)
+one_more_unit n first i rows bs d lt =
+    ap (λ m. set (with_births_from n first rows (take i bs)) ((get_or bs i d).parent * n + (get_or bs i d).letter) (Some (unit (first + m)))) (let e : i ≡ length (take i bs) = omega (arith, length-take i bs, lt) in e)
+    ∙ sym (ap (with_births_from n first rows) (take_more bs i d lt) ∙ with_births_push n first rows (take i bs) (get_or bs i d))
+
+pub units_as : (n letters first ids : ℕ) (now rows units : List (Option Row)) (lent bs : List Birth) → letters ≡ n → first ≡ ids → now ≡ rows → lent ≡ bs → units ≡ with_births_from letters first now lent → units ≡ with_births_from n ids rows bs
+units_as n letters first ids now rows units lent bs letters_are first_is now_is lent_is is =
+    is ∙ ap₂ (λ a b. with_births_from a b now lent) letters_are first_is ∙ ap₂ (λ a b. with_births_from n ids a b) now_is lent_is
+
+pub born_agrees : {X : Type 0} (names : List X) (first : ℕ) (rows : List (Option Row)) (lists : List (List (Option Row))) (bs : List Birth) → HasWideRows names first lists bs → Agree (length names) rows lists
+    → All (λ (b : Birth). b.parent * length names + b.letter < length rows) bs → Agree (length names) (with_births_from (length names) first rows bs) (rows_with names first lists bs)
+unfolding with_births_from
+born_agrees names first rows lists [] has agree places = agree
+born_agrees names first rows lists (b ∷ bs) has agree places =
+    let birth = All-head (λ (b : Birth). (b.parent < first) × (b.letter < length names)) b bs has.births in
+    let id : b.parent < length lists = omega (arith, birth.0, has.count) in
+    let place : b.parent * length names + b.letter < length rows = All-head (λ (b : Birth). b.parent * length names + b.letter < length rows) b bs places in
+    let later = All-tail (λ (b : Birth). b.parent * length names + b.letter < length rows) b bs places in
+    let new : List (Option Row) = set rows (b.parent * length names + b.letter) (Some (unit first)) in
+    born_agrees names (first + 1) new (after_birth names first lists b) bs (wide_after names first lists b bs has)
+    (push_agrees names (length names) new (set lists b.parent (set (get_or lists b.parent []) b.letter (Some (unit first))))
+    (set_agrees (length names) rows lists b.parent b.letter (Some (unit first)) agree id birth.1 (has.wide b.parent [] id) place))
+    (λ k d lt. omega (arith, later k d lt, length-set rows (b.parent * length names + b.letter) (Some (unit first))))
+
+-- what entries have after births
 
 abbrev pub origin_of : Birth → Origin
 origin_of b = Child b.parent b.letter
 
-pub defined_origins : (reach : ℕ) (bs : List Birth) (es gs : List Entry) → AreDefined reach bs es gs → map (λ (e : Entry). e.origin) gs ≡ map (λ (e : Entry). e.origin) es ++ map origin_of bs
-defined_origins reach _ _ _ (none es) = sym (append-nil (map (λ (e : Entry). e.origin) es))
-defined_origins reach _ _ _ (next b bs old between new is rest) =
-    defined_origins reach bs between new rest
-    ∙ ap (λ l. l ++ map origin_of bs)
-    (ap (map (λ (e : Entry). e.origin)) is.items ∙ map-append (λ (e : Entry). e.origin) (set old b.parent is.grown) (is.child ∷ [])
-    ∙ ap₂ (λ l f. l ++ f ∷ []) (map-set_same (λ (e : Entry). e.origin) old b.parent is.grown is.parent (is.origin ∙ ap (λ (e : Entry). e.origin) (sym (get_or_from_slice_get old b.parent is.parent is.parent is.parent_is)))) is.child_origin)
-    ∙ append_assoc (map (λ (e : Entry). e.origin) old) (origin_of b ∷ []) (map origin_of bs)
+map_map : {X Y Z : Type 0} (f : X → Y) (g : Y → Z) (xs : List X) → map g (map f xs) ≡ map (λ x. g (f x)) xs
+map_map f g [] = refl
+map_map f g (x ∷ xs) = ap (λ l. g (f x) ∷ l) (map_map f g xs)
 
--- the births' parents are entries with places for all letters
-pub record HasFullParents {X : Type 0} (names : List X) (es : List Entry) (bs : List Birth) : Type 0 where
-  pub parents : All (λ (b : Birth). b.parent < length es) bs
-  pub full : All (λ (b : Birth). (d : Entry) → length (get_or es b.parent d).rows.items ≡ length names) bs
+module _ (reach : ℕ) (bs : List Birth) (es : List Entry) where
+  abbrev pub after_births : List Entry
+  after_births = es ++ map (entry_of_birth reach es) bs
 
-pub full_after : {X : Type 0} (names : List X) (reach : ℕ) (b : Birth) (bs : List Birth) (es fs : List Entry) → IsDefined reach b es fs → HasFullParents names es (b ∷ bs) → HasFullParents names fs bs
-full_after names reach b bs es fs is has =
-    let rest = All-tail (λ (b : Birth). b.parent < length es) b bs has.parents in
-    record {
-      parents = λ k d lt. omega (arith, rest k d lt, defined_count reach b es fs is);
-      full = λ k d lt e. rows_counted reach b es fs is (get_or bs k d).parent e (rest k d lt) ∙ All-tail (λ (b : Birth). (d : Entry) → length (get_or es b.parent d).rows.items ≡ length names) b bs has.full k d lt e;
-    }
+  pub born_forwards : map (λ (e : Entry). e.forward) after_births ≡ map (λ (e : Entry). e.forward) es ++ map (λ _. None) bs
+  born_forwards = map-append (λ (e : Entry). e.forward) es (map (entry_of_birth reach es) bs) ∙ ap (λ l. map (λ (e : Entry). e.forward) es ++ l) (map_map (entry_of_birth reach es) (λ (e : Entry). e.forward) bs)
 
-defined_rows_once : {X : Type 0} (names : List X) (reach : ℕ) (b : Birth) (bs : List Birth) (es fs : List Entry) → IsDefined reach b es fs → HasFullParents names es (b ∷ bs)
-    → map (λ (e : Entry). places names e.rows.items) fs ≡ after_birth names (length es) (map (λ (e : Entry). places names e.rows.items) es) b
-defined_rows_once names reach b bs es fs is has =
-    let see = λ (e : Entry). places names e.rows.items in
-    let within : b.parent < length es = All-head (λ (b : Birth). b.parent < length es) b bs has.parents in
-    let parent : get_or es b.parent is.parent ≡ is.parent = get_or_from_slice_get es b.parent is.parent is.parent is.parent_is in
-    let full : length is.parent.rows.items ≡ length names =
-    ap (λ (e : Entry). length e.rows.items) (sym parent) ∙ All-head (λ (b : Birth). (d : Entry) → length (get_or es b.parent d).rows.items ≡ length names) b bs has.full is.parent in
-    let old_row : get_or (map (λ (e : Entry). places names e.rows.items) es) b.parent [] ≡ is.parent.rows.items =
-    get_or-map (λ (e : Entry). places names e.rows.items) es b.parent is.parent [] within ∙ ap (λ (e : Entry). places names e.rows.items) parent ∙ places_full names is.parent.rows.items full in
-    let new_row : places names is.grown.rows.items ≡ set is.parent.rows.items b.letter (Some (unit (length es))) =
-    places_full names is.grown.rows.items (ap length is.rows ∙ length-set is.parent.rows.items b.letter (Some (unit (length es))) ∙ full) ∙ is.rows in
-    ap (map (λ (e : Entry). places names e.rows.items)) is.items ∙ map-append (λ (e : Entry). places names e.rows.items) (set es b.parent is.grown) (is.child ∷ [])
-    ∙ ap₂ (λ l r. l ++ r ∷ [])
-    (map-set (λ (e : Entry). places names e.rows.items) es b.parent is.grown
-    ∙ ap (set (map (λ (e : Entry). places names e.rows.items) es) b.parent) (new_row ∙ ap (λ r. set r b.letter (Some (unit (length es)))) (sym old_row)))
-    (no_places names is.child.rows.items is.child_rows)
+  pub born_origins : map (λ (e : Entry). e.origin) after_births ≡ map (λ (e : Entry). e.origin) es ++ map origin_of bs
+  born_origins = map-append (λ (e : Entry). e.origin) es (map (entry_of_birth reach es) bs) ∙ ap (λ l. map (λ (e : Entry). e.origin) es ++ l) (map_map (entry_of_birth reach es) (λ (e : Entry). e.origin) bs)
 
-pub defined_rows : {X : Type 0} (names : List X) (reach : ℕ) (bs : List Birth) (es gs : List Entry) → AreDefined reach bs es gs → HasFullParents names es bs
-    → map (λ (e : Entry). places names e.rows.items) gs ≡ rows_with names (length es) (map (λ (e : Entry). places names e.rows.items) es) bs
-defined_rows names reach _ _ _ (none es) has = refl
-defined_rows names reach _ _ _ (next b bs old between new is rest) has =
-    defined_rows names reach bs between new rest (full_after names reach b bs old between is has)
-    ∙ ap₂ (λ n rows. rows_with names n rows bs) (defined_count reach b old between is) (defined_rows_once names reach b bs old between is has)
+  pub count_born : length after_births ≡ length es + length bs
+  count_born = length-append es (map (entry_of_birth reach es) bs) ∙ ap (λ n. length es + n) (length-map bs (entry_of_birth reach es))
 
--- an entry after births is one from before, or that of a birth
-
-pub record IsOldEntry (es : List Entry) (c : ℕ) (f : Entry) : Type 0 where
-  pub entry : Entry
-  pub entry_is : slice_get es c ≡ Some entry
-  pub origin : f.origin ≡ entry.origin
-  pub own_reach : f.reach ≡ entry.reach
-  pub own_length : f.length ≡ entry.length
-  pub rows : length f.rows.items ≡ length entry.rows.items
-
-pub record IsNewEntry (reach : ℕ) (bs : List Birth) (es : List Entry) (c : ℕ) (f : Entry) : Type 0 where
-  pub place : ℕ
-  pub birth : Birth
-  pub birth_is : slice_get bs place ≡ Some birth
-  pub id : c ≡ length es + place
-  pub origin : f.origin ≡ origin_of birth
-  pub own_reach : f.reach ≡ reach
-  pub own_length : (d : Entry) → f.length ≡ (get_or es birth.parent d).length + 1
-  pub rows : f.rows.items ≡ []
-
-slice_append : {X : Type 0} (xs : List X) (y x : X) (c : ℕ) → slice_get (xs ++ y ∷ []) c ≡ Some x → (slice_get xs c ≡ Some x) ⊎ ((c ≡ length xs) × (y ≡ x))
-slice_append [] y x zero found = inr (refl, let e : y ≡ x = cc in e)
-slice_append {X = X} [] y x (suc c) found = absurd (no_some x found)
-  where
-    no_some : (x : X) → None ≡ Some x → ⊥
-    no_some x bad = cc
-slice_append (z ∷ xs) y x zero found = inl found
-slice_append (z ∷ xs) y x (suc c) found = elim (slice_append xs y x c found) [ inl there ↦ inl there | inr last ↦ inr (ap suc last.0, last.1) ]
-
-entry_once : (reach : ℕ) (b : Birth) (bs : List Birth) (es fs : List Entry) (c : ℕ) (f : Entry) → IsDefined reach b es fs → slice_get fs c ≡ Some f → IsOldEntry es c f ⊎ IsNewEntry reach (b ∷ bs) es c f
-entry_once reach b bs es fs c f is found =
-    elim (slice_append (set es b.parent is.grown) is.child f c (subst (λ l. slice_get l c ≡ Some f) is.items found)) [
-      | inl there ↦
-          let lt : c < length es = omega (arith, slice_get_within (set es b.parent is.grown) c f there, length-set es b.parent is.grown) in
-          let old : Entry = get_or es c f in
-          let here : get_or fs c f ≡ f = get_or_from_slice_get fs c f f found in
-          inl (record {
-            entry = old;
-            entry_is = slice_get-get_or es c f lt;
-            origin = ap (λ (e : Entry). e.origin) (sym here) ∙ defined_keeps (λ e. e.origin) reach b es fs is is.origin c f lt;
-            own_reach = ap (λ (e : Entry). e.reach) (sym here) ∙ defined_keeps (λ e. e.reach) reach b es fs is is.own_reach c f lt;
-            own_length = ap (λ (e : Entry). e.length) (sym here) ∙ lengths_kept reach b es fs is c f lt;
-            rows = ap (λ (e : Entry). length e.rows.items) (sym here) ∙ rows_counted reach b es fs is c f lt;
-          })
-      | inr last ↦
-          inr (record {
-            place = 0;
-            birth = b;
-            birth_is = refl;
-            id = omega (arith, last.0, length-set es b.parent is.grown);
-            origin = ap (λ (e : Entry). e.origin) (sym last.1) ∙ is.child_origin;
-            own_reach = ap (λ (e : Entry). e.reach) (sym last.1) ∙ is.child_reach;
-            own_length = λ d. ap (λ (e : Entry). e.length) (sym last.1) ∙ is.child_length ∙ ap (λ (e : Entry). e.length + 1) (sym (get_or_from_slice_get es b.parent is.parent d is.parent_is));
-            rows = ap (λ (e : Entry). e.rows.items) (sym last.1) ∙ is.child_rows;
-          })
-    ]
-
-pub entry_cases : (reach : ℕ) (bs : List Birth) (es gs : List Entry) → AreDefined reach bs es gs → All (λ (b : Birth). b.parent < length es) bs → (c : ℕ) (f : Entry) → slice_get gs c ≡ Some f → IsOldEntry es c f ⊎ IsNewEntry reach bs es c f
-entry_cases reach _ _ _ (none es) parents c f found = inl (record { entry = f; entry_is = found; origin = refl; own_reach = refl; own_length = refl; rows = refl })
-entry_cases reach _ _ _ (next b bs old between new is rest) parents c f found =
-    let later = All-tail (λ (b : Birth). b.parent < length old) b bs parents in
-    elim (entry_cases reach bs between new rest (λ k d lt. omega (arith, later k d lt, defined_count reach b old between is)) c f found) [
-      | inl before ↦
-          elim (entry_once reach b bs old between c before.entry is before.entry_is) [
-            | inl first ↦ inl (record { entry = first.entry; entry_is = first.entry_is; origin = before.origin ∙ first.origin; own_reach = before.own_reach ∙ first.own_reach; own_length = before.own_length ∙ first.own_length; rows = before.rows ∙ first.rows })
-            | inr born ↦ inr (record {
-              place = born.place;
-              birth = born.birth;
-              birth_is = born.birth_is;
-              id = born.id;
-              origin = before.origin ∙ born.origin;
-              own_reach = before.own_reach ∙ born.own_reach;
-              own_length = λ d. before.own_length ∙ born.own_length d;
-              rows = nil_from_length f.rows.items (before.rows ∙ ap length born.rows);
-            })
-          ]
-      | inr born ↦
-          inr (record {
-            place = suc born.place;
-            birth = born.birth;
-            birth_is = born.birth_is;
-            id = omega (arith, born.id, defined_count reach b old between is);
-            origin = born.origin;
-            own_reach = born.own_reach;
-            own_length = λ d. born.own_length d ∙ ap (λ n. n + 1) (lengths_kept reach b old between is born.birth.parent d
-                (subst (λ (c : Birth). c.parent < length old) (get_or_from_slice_get bs born.place born.birth born.birth born.birth_is) (later born.place born.birth (slice_get_within bs born.place born.birth born.birth_is))));
-            rows = born.rows;
-          })
-    ]
+-- a birth after another
+pub one_more_born : (reach i : ℕ) (es now : List Entry) (bs : List Birth) (d : Birth) → i < length bs → now ≡ es ++ map (entry_of_birth reach es) (take i bs)
+    → (e : Entry) → e ≡ entry_of_birth reach es (get_or bs i d) → now ++ e ∷ [] ≡ es ++ map (entry_of_birth reach es) (take (i + 1) bs)
+one_more_born reach i es now bs d lt so_far e is =
+    ap₂ (λ l e. l ++ e ∷ []) so_far is ∙ append_assoc es (map (entry_of_birth reach es) (take i bs)) (entry_of_birth reach es (get_or bs i d) ∷ [])
+    ∙ ap (λ l. es ++ l) (sym (ap (map (entry_of_birth reach es)) (take_more bs i d lt) ∙ map_push (entry_of_birth reach es) (take i bs) (get_or bs i d)))
 
 -- the words
 

@@ -7,12 +7,11 @@ use Rattle.std.proofs.lemmas.List.{length-set, map-set}
 use Rattle.ve_theory.specs.Words.{Word}
 use Rattle.ve_theory.specs.Answers.{Row}
 use Rattle.ve_pres.specs.Drafts.{Draft}
-use Rattle.ve_table.specs.Books.{words_of}
 use Rattle.ve_table.specs.Tables.{ActionTable, IsLive, of_live, live_words}
 use Rattle.ve_table.specs.Sound.{IsSound, IsForwardOf, StandsFor}
 use Rattle.ve_table.specs.Changes.{with_forward}
-use Rattle.ve_table.specs.Kept.{places, IsEntryOf}
-use Rattle.ve_table.proofs.Entries.{same_some}
+use Rattle.ve_table.specs.Kept.{IsEntryOf}
+use Rattle.ve_table.proofs.Entries.{same_some, tabled}
 use Rattle.ve_table.specs.declared.entry.Entry.{Entry}
 
 -- what a list has at a place after a write
@@ -37,29 +36,13 @@ one_less (None ∷ forwards) (x ∷ xs) (suc b) v same live = ap suc (one_less f
 one_less (Some w ∷ forwards) (x ∷ xs) (suc b) v same live = one_less forwards xs b v (omega (arith, same)) live
 
 -- the table with another forward at an id
-pub killed : (draft : Draft) (level : ℕ) (images : List Row) (items : List Entry) (b : ℕ) (e d : Entry) (v : Row) → e ≡ get_or items b d
-    → record {
-      draft = draft;
-      level = level;
-      words = words_of (map (λ (e : Entry). e.origin) (set items b (record e { forward = Some v })));
-      forwards = map (λ (e : Entry). e.forward) (set items b (record e { forward = Some v }));
-      rows = map (λ (e : Entry). places draft.presentation.names e.rows.items) (set items b (record e { forward = Some v }));
-      images = images;
-    } ≡ with_forward (record {
-      draft = draft;
-      level = level;
-      words = words_of (map (λ (e : Entry). e.origin) items);
-      forwards = map (λ (e : Entry). e.forward) items;
-      rows = map (λ (e : Entry). places draft.presentation.names e.rows.items) items;
-      images = images;
-    }) b v
-killed draft level images items b e d v e_is =
+pub killed : (draft : Draft) (level : ℕ) (images : List Row) (rows : List (Option Row)) (items : List Entry) (b : ℕ) (e d : Entry) (v : Row) → e ≡ get_or items b d
+    → tabled draft level images rows (set items b (record e { forward = Some v })) ≡ with_forward (tabled draft level images rows items) b v
+killed draft level images rows items b e d v e_is =
     let new : Entry = record e { forward = Some v } in
     let same_origins : map (λ (e : Entry). e.origin) (set items b new) ≡ map (λ (e : Entry). e.origin) items =
     map-set_same (λ (e : Entry). e.origin) items b new d (ap (λ (e : Entry). e.origin) e_is) in
-    let same_rows : map (λ (e : Entry). places draft.presentation.names e.rows.items) (set items b new) ≡ map (λ (e : Entry). places draft.presentation.names e.rows.items) items =
-    map-set_same (λ (e : Entry). places draft.presentation.names e.rows.items) items b new d (ap (λ (e : Entry). places draft.presentation.names e.rows.items) e_is) in
-    rw (same_origins, same_rows, map-set (λ (e : Entry). e.forward) items b new) refl
+    rw (same_origins, length-set items b new, map-set (λ (e : Entry). e.forward) items b new) refl
 
 -- a table with one more dead id is sound
 pub sound_killed : (T : ActionTable) (b : ℕ) (v : Row) → IsSound T → IsForwardOf T b v → IsSound (with_forward T b v)
@@ -69,6 +52,8 @@ sound_killed T b v sound is_forward = record {
   rising = sound.rising;
   prefixes = sound.prefixes;
   one_forward_each = length-set T.forwards b (Some v) ∙ sound.one_forward_each;
+  one_row_list_each = sound.one_row_list_each;
+  one_place_each = sound.one_place_each;
   one_image_each = sound.one_image_each;
   forwards = λ c u found.
       elim (read_set T.forwards b c (Some v) (Some u) found) [
@@ -87,7 +72,7 @@ sound_killed T b v sound is_forward = record {
     moved c u forward = record { stands = stood forward.stands; below = forward.below }
 
 kept_entry : (T : ActionTable) (b c : ℕ) (v : Row) (f : Entry) → IsEntryOf T c f → IsEntryOf (with_forward T b v) c f
-kept_entry T b c v f own = record { origin = own.origin; own_reach = own.own_reach; own_length = own.own_length; room = own.room }
+kept_entry T b c v f own = record { origin = own.origin; own_reach = own.own_reach; own_length = own.own_length }
 
 pub kept_entries : (T : ActionTable) (items : List Entry) (b : ℕ) (v : Row) (new : Entry) → ((c : ℕ) (f : Entry) → slice_get items c ≡ Some f → IsEntryOf T c f) → IsEntryOf T b new
     → (c : ℕ) (f : Entry) → slice_get (set items b new) c ≡ Some f → IsEntryOf (with_forward T b v) c f

@@ -1,10 +1,12 @@
+pub mod Letters
+pub mod Listed
+pub mod LiveRows
 pub mod Entries
 pub mod Killing
 pub mod Setting
 pub mod Stepping
 pub mod Units
 pub mod Opening
-pub mod WeightSums
 pub mod InPlace
 pub mod LiveIds
 pub mod Spelling
@@ -14,7 +16,6 @@ pub mod Comparing
 pub mod Producing
 pub mod Merging
 pub mod Birthing
-pub mod Room
 pub mod Growing
 pub mod Counting
 pub mod NextLevel

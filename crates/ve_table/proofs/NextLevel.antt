@@ -18,7 +18,7 @@ use Rattle.ve_table.specs.Changes.{IsBorn, Grows}
 use Rattle.ve_table.proofs.Entries.{same_some}
 use Rattle.ve_table.proofs.Units.{above_one, unit_vector}
 use Rattle.ve_table.proofs.Birthing.{pairs_append, last_letter}
-use Rattle.ve_table.proofs.Growing.{rows_with, HasWideRows, row_stays, row_is_born}
+use Rattle.ve_table.proofs.Growing.{rows_with, HasWideRows, all_wide, row_stays, row_is_born, length_rows}
 use Rattle.ve_table.proofs.Counting.{smaller_not}
 
 abbrev pub born_word : ActionTable → Birth → Word
@@ -190,6 +190,8 @@ sound_grown T bs sound grow bounds wide live are = record {
             (b.parent, (are.only born.0 c lt).parent, get_or_default T.words b.parent w (generator 0) (are.only born.0 c lt).parent ∙ equal)
       ];
   one_forward_each = length-append T.forwards (map none bs) ∙ ap₂ (λ m n. m + n) sound.one_forward_each (length-map bs none) ∙ sym (count_new T bs);
+  one_row_list_each = length_rows names (length T.words) T.rows bs ∙ ap (λ n. n + length bs) sound.one_row_list_each ∙ sym (count_new T bs);
+  one_place_each = all_wide names (length T.words) T.rows bs wide;
   one_image_each = sound.one_image_each;
   forwards = λ b v found. absurd (not_dead b v found);
   due = λ b x. due b x (born_cases T bs b x are);
@@ -199,6 +201,9 @@ sound_grown T bs sound grow bounds wide live are = record {
   where
     P : Presentation
     P = presented T
+
+    names : List (List ℕ)
+    names = T.draft.presentation.names
 
     none : Birth → Option Row
     none b = None

@@ -1,10 +1,10 @@
 -- The table of level 0.
-use Rattle.std.proofs.Common.{◌≡◌, ℕ, zero, suc, ◌+◌, ◌<◌, ◌≤◌, inl, inr, Some, None, List, [], ◌∷◌, ◌++◌, length, map, get_or, refl, sym, ap, ap₂, subst, ◌∙◌, arith}
+use Rattle.std.proofs.Common.{◌≡◌, ℕ, zero, suc, ◌+◌, ◌*◌, ◌<◌, ◌≤◌, inl, inr, Some, None, List, [], ◌∷◌, ◌++◌, length, map, get_or, refl, sym, ap, ap₂, subst, ◌∙◌, arith}
 use Rattle.std.specs.Prelude.{Option, All, slice_get}
 use Rattle.std.specs.List.{range_with_len}
 use Rattle.std.proofs.lemmas.Option.{slice_get_within, get_or_from_slice_get}
-use Rattle.std.proofs.lemmas.List.{length-map, map_push, take_all, get_or-map, append_assoc, append-nil}
-use Rattle.std.proofs.lemmas.List.Elements.{All-head, All-tail, All-push}
+use Rattle.std.proofs.lemmas.List.{length-map, map_push, get_or_past, get_or-map, append_assoc, append-nil}
+use Rattle.std.proofs.lemmas.List.Elements.{All-head, All-tail, All-map, All-push}
 use Rattle.std.proofs.lemmas.List.FromFn.{get_or-map-range_with_len, length-map-range_with_len, map-range_with_len_more}
 use Rattle.ve_theory.specs.Combinations.{unit}
 use Rattle.ve_theory.specs.Words.{Word, generator, times, start, letters, word_length, word_weight, Weighted}
@@ -19,11 +19,14 @@ use Rattle.ve_table.specs.Books.{spelled, words_after, words_of, IsOriginOf}
 use Rattle.ve_table.specs.Tables.{word_at, of_live, live_words}
 use Rattle.ve_table.specs.Sound.{IsSound, IsImageOf}
 use Rattle.ve_table.specs.Changes.{opened}
-use Rattle.ve_table.specs.Kept.{places, table_of, IsEntryOf, IsKept}
+use Rattle.ve_table.specs.Kept.{table_of, IsEntryOf, IsKept}
+use Rattle.ve_table.specs.Rows.{listed}
 use Rattle.ve_table.specs.Reaches.{AreReaches}
 use Rattle.ve_table.specs.declared.table.Table.TheInside.{Inside}
 use Rattle.ve_table.specs.Roots.{IsRootEntry, AreRoots}
-use Rattle.ve_table.proofs.Setting.{tabled, none_is_some, row_in}
+use Rattle.ve_table.proofs.Entries.{tabled}
+use Rattle.ve_table.proofs.Listed.{row_in, listed_is}
+use Rattle.ve_table.proofs.Setting.{none_is_some}
 use Rattle.ve_table.proofs.Units.{above_one, unit_vector}
 
 -- one root more
@@ -44,35 +47,6 @@ same_map f c [] (y ∷ ys) same all = absurd (omega (arith, same))
 same_map f c (x ∷ xs) [] same all = absurd (omega (arith, same))
 same_map f c (x ∷ xs) (y ∷ ys) same all = ap₂ (λ z l. z ∷ l) (All-head (λ x. f x ≡ c) x xs all) (same_map f c xs ys (omega (arith, same)) (All-tail (λ x. f x ≡ c) x xs all))
 
--- an id without places has no rows
-pub no_places : {X : Type 0} (names : List X) (rows : List (Option Row)) → rows ≡ [] → places names rows ≡ map (λ _. None) names
-no_places {X} names rows none = ap (λ r. places names r) none ∙ (let empty : X → Option Row = λ _. None in take_all (length names) (map empty names) (omega (arith, length-map names empty)))
-
-pub opened_is : (draft : Draft) (items : List Entry) (images : List Row) → AreRoots draft.presentation.generators items → images ≡ map unit (range_with_len 0 draft.presentation.generators)
-    → tabled draft 0 images items ≡ opened draft
-opened_is draft items images are images_are =
-    let ids : List ℕ = range_with_len 0 draft.presentation.generators in
-    let names = draft.presentation.names in
-    let same : length items ≡ length ids = sym (length-map items (λ (e : Entry). e.origin)) ∙ ap length are.origins ∙ length-map ids Root in
-    let words : words_of (map (λ (e : Entry). e.origin) items) ≡ map generator ids = ap words_of are.origins ∙ root_words [] ids in
-    let forwards : map (λ (e : Entry). e.forward) items ≡ map (λ _. None) ids = same_map (λ (e : Entry). e.forward) None items ids same (λ k d lt. (are.each k d lt).live) in
-    let rows : map (λ (e : Entry). places names e.rows.items) items ≡ map (λ _. map (λ _. None) names) ids =
-    same_map (λ (e : Entry). places names e.rows.items) (map (λ _. None) names) items ids same (λ k d lt. no_places names (get_or items k d).rows.items (are.each k d lt).no_rows) in
-    rw (words, forwards, rows, images_are) refl
-
--- all ids live
-pub all_live : {X : Type 0} (fs : List (Option Row)) (xs : List X) → All (λ f. f ≡ None) fs → length fs ≡ length xs → of_live fs xs ≡ xs
-unfolding of_live
-all_live [] [] live same = refl
-all_live [] (x ∷ xs) live same = absurd (omega (arith, same))
-all_live (f ∷ fs) [] live same = absurd (omega (arith, same))
-all_live (f ∷ fs) (x ∷ xs) live same = rw (All-head (λ f. f ≡ None) f fs live) (ap (λ l. x ∷ l) (all_live fs xs (All-tail (λ f. f ≡ None) f fs live) (omega (arith, same))))
-
-pub nones : {X : Type 0} (ys : List X) → All (λ (f : Option Row). f ≡ None) (map (λ _. None) ys)
-nones [] k d lt = absurd (omega arith)
-nones (y ∷ ys) zero d lt = refl
-nones (y ∷ ys) (suc k) d lt = nones ys k d (omega arith)
-
 pub no_row : {X Y : Type 0} (ids : List X) (names : List Y) (b x : ℕ) → row_in (map (λ _. map (λ _. None) names) ids) b x ≡ None
 no_row [] names zero zero = refl
 no_row [] names zero (suc x) = refl
@@ -89,6 +63,39 @@ no_row (i ∷ ids) names zero x = none_in names x
     none_in (n ∷ names) zero = refl
     none_in (n ∷ names) (suc x) = none_in names x
 no_row (i ∷ ids) names (suc b) x = no_row ids names b x
+
+pub opened_is : (draft : Draft) (items : List Entry) (rows : List (Option Row)) (images : List Row) → rows ≡ [] → AreRoots draft.presentation.generators items → images ≡ map unit (range_with_len 0 draft.presentation.generators)
+    → tabled draft 0 images rows items ≡ opened draft
+opened_is draft items rows images rows_are are images_are =
+    let ids : List ℕ = range_with_len 0 draft.presentation.generators in
+    let names = draft.presentation.names in
+    let same : length items ≡ length ids = sym (length-map items (λ (e : Entry). e.origin)) ∙ ap length are.origins ∙ length-map ids Root in
+    let words : words_of (map (λ (e : Entry). e.origin) items) ≡ map generator ids = ap words_of are.origins ∙ root_words [] ids in
+    let forwards : map (λ (e : Entry). e.forward) items ≡ map (λ _. None) ids = same_map (λ (e : Entry). e.forward) None items ids same (λ k d lt. (are.each k d lt).live) in
+    let lists : listed (length names) (length items) [] ≡ map (λ _. map (λ _. None) names) ids =
+    listed_is (length names) (length items) [] (map no_rows ids) (length-map ids no_rows ∙ sym same)
+    (All-map (λ (row : List (Option Row)). length row ≡ length names) no_rows ids (λ k d lt. length-map names empty))
+    (λ b x letter. get_or_past [] (b * length names + x) None (omega arith) ∙ sym (no_row ids names b x)) in
+    rw (words, forwards, rows_are, lists, images_are) refl
+  where
+    empty : List ℕ → Option Row
+    empty name = None
+
+    no_rows : ℕ → List (Option Row)
+    no_rows i = map empty draft.presentation.names
+
+-- all ids live
+pub all_live : {X : Type 0} (fs : List (Option Row)) (xs : List X) → All (λ f. f ≡ None) fs → length fs ≡ length xs → of_live fs xs ≡ xs
+unfolding of_live
+all_live [] [] live same = refl
+all_live [] (x ∷ xs) live same = absurd (omega (arith, same))
+all_live (f ∷ fs) [] live same = absurd (omega (arith, same))
+all_live (f ∷ fs) (x ∷ xs) live same = rw (All-head (λ f. f ≡ None) f fs live) (ap (λ l. x ∷ l) (all_live fs xs (All-tail (λ f. f ≡ None) f fs live) (omega (arith, same))))
+
+pub nones : {X : Type 0} (ys : List X) → All (λ (f : Option Row). f ≡ None) (map (λ _. None) ys)
+nones [] k d lt = absurd (omega arith)
+nones (y ∷ ys) zero d lt = refl
+nones (y ∷ ys) (suc k) d lt = nones ys k d (omega arith)
 
 generator_before : (weights : List ℕ) (i j : ℕ) → i < j → Weighted weights (generator i) (generator j)
 unfolding Weighted word_weight start
@@ -116,6 +123,8 @@ sound_opened draft valid bounds = record {
       rw (at i d before', at j d in') (generator_before P.weights i j lt);
   prefixes = λ w x found. absurd (not_times found.0 x w (omega (arith, found.1, count)) found.2);
   one_forward_each = length-map ids no_forward ∙ sym (length-map ids generator);
+  one_row_list_each = length-map ids no_rows ∙ sym (length-map ids generator);
+  one_place_each = All-map (λ (row : List (Option Row)). length row ≡ length P.names) no_rows ids (λ k d lt. length-map P.names empty);
   one_image_each = length-map-range_with_len unit 0 P.generators;
   forwards = λ b v found. absurd (not_dead b v found);
   due = λ b x. (λ some. absurd (none_is_some _ (no_row ids P.names b x) some), λ due. absurd (not_due b x due.0 due.2));
@@ -144,6 +153,12 @@ sound_opened draft valid bounds = record {
     no_forward : ℕ → Option Row
     no_forward i = None
 
+    empty : List ℕ → Option Row
+    empty name = None
+
+    no_rows : ℕ → List (Option Row)
+    no_rows i = map empty P.names
+
     not_times : (k x : ℕ) (w : Word) → k < P.generators → get_or (map generator ids) k (times w x) ≡ times w x → ⊥
     not_times k x w lt is = let bad : generator k ≡ times w x = sym (at k (times w x) lt) ∙ is in cc
 
@@ -170,18 +185,17 @@ root_entry draft items are b e found =
       origin = rw (origin, word) refl;
       own_reach = is.own_reach ∙ sym (generator_reach draft.presentation b) ∙ ap (reach draft.presentation) (sym word);
       own_length = is.own_length ∙ sym (generator_length b) ∙ ap word_length (sym word);
-      room = inl is.no_rows;
     }
 
-pub opened_from : (t : Inside) → t.level ≡ 0 → AreRoots t.presentation.presentation.generators t.entries.items → t.images.items ≡ map unit (range_with_len 0 t.presentation.presentation.generators)
+pub opened_from : (t : Inside) → t.level ≡ 0 → t.rows.items ≡ [] → AreRoots t.presentation.presentation.generators t.entries.items → t.images.items ≡ map unit (range_with_len 0 t.presentation.presentation.generators)
     → table_of t ≡ opened t.presentation
-opened_from t level are images = ap (λ k. tabled t.presentation k t.images.items t.entries.items) level ∙ opened_is t.presentation t.entries.items t.images.items are images
+opened_from t level rows are images = ap (λ k. tabled t.presentation k t.images.items t.rows.items t.entries.items) level ∙ opened_is t.presentation t.entries.items t.rows.items t.images.items rows are images
 
-pub kept_opened : (t : Inside) → t.level ≡ 0 → AreRoots t.presentation.presentation.generators t.entries.items → t.images.items ≡ map unit (range_with_len 0 t.presentation.presentation.generators)
+pub kept_opened : (t : Inside) → t.level ≡ 0 → t.rows.items ≡ [] → AreRoots t.presentation.presentation.generators t.entries.items → t.images.items ≡ map unit (range_with_len 0 t.presentation.presentation.generators)
     → t.live ≡ t.presentation.presentation.generators → AreReaches t.presentation.presentation t.reaches → IsValid t.presentation.presentation → HasBounds t.presentation.presentation → IsKept t
-kept_opened t level are images live reaches valid bounds =
+kept_opened t level rows are images live reaches valid bounds =
     let count : ℕ = t.presentation.presentation.generators in
-    let same : table_of t ≡ opened t.presentation = opened_from t level are images in
+    let same : table_of t ≡ opened t.presentation = opened_from t level rows are images in
     let ids : length t.entries.items ≡ count = sym (length-map t.entries.items (λ (e : Entry). e.origin)) ∙ ap length are.origins ∙ length-map-range_with_len Root 0 count in
     let live_are : live_words (opened t.presentation) ≡ (opened t.presentation).words =
     all_live (opened t.presentation).forwards (opened t.presentation).words (nones (range_with_len 0 count)) (sound_opened t.presentation valid bounds).one_forward_each in
@@ -189,6 +203,7 @@ kept_opened t level are images live reaches valid bounds =
       sound = subst IsSound (sym same) (sound_opened t.presentation valid bounds);
       entries = λ b e found. subst (λ T. IsEntryOf T b e) (sym same) (root_entry t.presentation t.entries.items are b e found);
       count = omega (arith, ids, valid.generators.1);
+      few_places = omega (arith, ap length rows);
       live_count = live ∙ sym (length-map-range_with_len generator 0 count) ∙ ap length (sym live_are) ∙ ap (λ T. length (live_words T)) (sym same);
       own_reaches = reaches;
     }

@@ -1,15 +1,16 @@
 -- The entries of live ids, numbered anew, are the table without the dead ones.
-use Rattle.std.proofs.Common.{◌≡◌, ℕ, suc, ◌<◌, ◌≤◌, inl, inr, true, false, Some, None, List, [], ◌∷◌, ◌++◌, length, map, take, get_or, refl, sym, ap, ap₂, subst, ◌∙◌, arith}
+use Rattle.std.proofs.Common.{◌≡◌, ℕ, suc, ◌+◌, ◌*◌, ◌<◌, ◌≤◌, ◌⊎◌, inl, inr, true, false, Some, None, List, [], ◌∷◌, length, map, take, get_or, refl, sym, ap, ap₂, subst, ◌∙◌, arith}
 use Rattle.std.specs.Prelude.{Option, All, IfSome, slice_get, filter, count_by}
 use Rattle.std.specs.Option.{is_none, option_map}
 use Rattle.std.proofs.lemmas.Option.{slice_get_within, slice_get-get_or, slice_get-map, get_or_from_slice_get}
-use Rattle.std.proofs.lemmas.List.{length-map, take-map, map-append, map-id, get_or_default}
+use Rattle.std.proofs.lemmas.Bool.{cases_lt}
+use Rattle.std.proofs.lemmas.List.{get_or_past, length-map, take-map, map-id, get_or_default}
 use Rattle.std.proofs.lemmas.List.FromFn.{get_or-map-range_with_len, length-map-range_with_len}
 use Rattle.std.proofs.lemmas.List.Elements.{All-head, All-tail, filter_passes}
 use Rattle.std.proofs.lemmas.List.Sums.{length-filter, count_by-le-length}
 use Rattle.ve_theory.specs.Combinations.{IsReduced}
 use Rattle.ve_theory.specs.Words.{Word, generator, times, word_length}
-use Rattle.ve_theory.specs.Presentations.{reach}
+use Rattle.ve_theory.specs.Presentations.{letter_count, reach}
 use Rattle.ve_theory.specs.Answers.{Row}
 use Rattle.ve_vec.specs.Vectors.{numbered}
 use Rattle.ve_table.specs.declared.origin.Origin.{Origin}
@@ -21,38 +22,21 @@ use Rattle.ve_table.specs.Tables.{ActionTable, presented, word_at, row_at, IsLiv
 use Rattle.ve_table.specs.Reaches.{AreReaches}
 use Rattle.ve_table.specs.Sound.{IsSound, HasLiveIds, NamesLiveIds}
 use Rattle.ve_table.specs.Changes.{renumbered, without_dead}
-use Rattle.ve_table.specs.Kept.{places, table_of, IsEntryOf, IsKept}
+use Rattle.ve_table.specs.Rows.{AreLiveRows}
+use Rattle.ve_table.specs.Kept.{table_of, IsEntryOf, IsKept}
 use Rattle.ve_table.specs.Numbers.{is_live_entry, new_numbers, CanNumber, HasParentBelow, numbered_origin, CanNumberEntry, IsNumbered, AreNumbered}
-use Rattle.ve_table.proofs.Entries.{one_entry_each, row_here}
-use Rattle.ve_table.proofs.Setting.{tabled}
+use Rattle.ve_table.proofs.Entries.{tabled, one_entry_each, row_here}
+use Rattle.ve_table.proofs.Listed.{Agree, at_place, place_past, no_id, listed_is}
 use Rattle.ve_table.proofs.Opening.{same_map, all_live, nones}
 use Rattle.ve_table.proofs.Spelling.{words_are}
 use Rattle.ve_table.proofs.LiveIds.{alive, of_live-at, live_filter, alive_filter, alive_entries}
-use Rattle.ve_table.proofs.Dropping.{number_is, word_kept, live_count, old_id, number_grows, id_within, reduced_kept, sound_dropped, some_back}
+use Rattle.ve_table.proofs.Dropping.{get_or-map_default, row_kept, number_is, word_kept, live_count, old_id, number_grows, id_within, reduced_kept, sound_dropped, some_back}
 
 -- lists
-
-map_pairs : {X Y Z : Type 0} (f : X → Z) (g : Y → Z) (xs : List X) (ys : List Y) → length ys ≡ length xs → ((k : ℕ) (c : X) (d : Y) → k < length xs → f (get_or xs k c) ≡ g (get_or ys k d)) → map f xs ≡ map g ys
-map_pairs f g [] [] same each = refl
-map_pairs f g [] (y ∷ ys) same each = absurd (omega (arith, same))
-map_pairs f g (x ∷ xs) [] same each = absurd (omega (arith, same))
-map_pairs f g (x ∷ xs) (y ∷ ys) same each = ap₂ (λ z l. z ∷ l) (each 0 x y (omega arith)) (map_pairs f g xs ys (omega (arith, same)) (λ k c d lt. each (suc k) c d (omega (arith, lt))))
 
 map_same : {X Z : Type 0} (f g : X → Z) (xs : List X) → ((k : ℕ) (c : X) → k < length xs → f (get_or xs k c) ≡ g (get_or xs k c)) → map f xs ≡ map g xs
 map_same f g [] each = refl
 map_same f g (x ∷ xs) each = ap₂ (λ z l. z ∷ l) (each 0 x (omega arith)) (map_same f g xs (λ k c lt. each (suc k) c (omega (arith, lt))))
-
-map_twice : {X Y Z : Type 0} (f : X → Y) (g : Y → Z) (xs : List X) → map g (map f xs) ≡ map (λ x. g (f x)) xs
-map_twice f g [] = refl
-map_twice f g (x ∷ xs) = ap (λ l. g (f x) ∷ l) (map_twice f g xs)
-
-pub places-map : {X : Type 0} (names : List X) (f : Row → Row) (rows : List (Option Row)) → places names (map (option_map f) rows) ≡ map (option_map f) (places names rows)
-places-map {X} names f rows =
-    let empty : X → Option Row = λ _. None in
-    let still : map (option_map f) (map empty names) ≡ map empty names = map_twice empty (option_map f) names in
-    ap (λ l. take (length names) (map (option_map f) rows ++ l)) (sym still)
-    ∙ ap (take (length names)) (sym (map-append (option_map f) rows (map empty names)))
-    ∙ take-map (option_map f) (length names) (rows ++ map empty names)
 
 -- the numbers of all ids
 
@@ -84,28 +68,15 @@ can_number t kept p v live reduced = record {
   order = (p, subst (IsReduced ◌<◌ p) (sym (vector_numbered t kept v live)) (reduced_kept (table_of t) p v kept.sound.one_forward_each live reduced));
 }
 
--- what stands in the rows of a live id
-row_live : (t : Inside) → IsKept t → NamesLiveIds (table_of t) → (b x : ℕ) (e : Entry) (d : Option Row) (v : Row) → IsLive (table_of t) b → slice_get t.entries.items b ≡ Some e → x < length e.rows.items → get_or e.rows.items x d ≡ Some v
-    → row_at (table_of t) b x ≡ Some v
-row_live t kept live b x e d v is_live e_is lt is = row_here t kept b x e e_is ∙ get_or_default e.rows.items x None d lt ∙ is
-
 parent_below : (words : List Word) (b n : ℕ) (o : Origin) (w : Word) → IsOriginOf words b o w → b ≤ n → HasParentBelow n o
 unfolding IsOriginOf
 parent_below words b n (Root i) w is le = tt
 parent_below words b n (Child parent x) w is le = omega (arith, is.0, le)
 
-pub can_number_entry : (t : Inside) → IsKept t → NamesLiveIds (table_of t) → (b : ℕ) (e : Entry) → IsLive (table_of t) b → slice_get t.entries.items b ≡ Some e → CanNumberEntry (new_numbers t.entries.items) e
-can_number_entry t kept live b e is_live e_is = record {
-  parent = parent_below (table_of t).words b (length (new_numbers t.entries.items)) e.origin (word_at (table_of t) b) (kept.entries b e e_is).origin
-      (omega (arith, slice_get_within t.entries.items b e e_is, length-map-range_with_len (λ b. count_by is_live_entry (take b t.entries.items)) 0 (length t.entries.items)));
-  rows = λ x d lt. at x d lt (get_or e.rows.items x d) refl;
-}
-  where
-    at : (x : ℕ) (d : Option Row) → x < length e.rows.items → (o : Option Row) → get_or e.rows.items x d ≡ o → IfSome o (CanNumber (new_numbers t.entries.items))
-    at x d lt None is = tt
-    at x d lt (Some v) is =
-        let found = row_live t kept live b x e d v is_live e_is lt is in
-        can_number t kept (presented (table_of t)).prime v (live.rows b x v is_live found) (kept.sound.rows b x v found).stands.row.0
+pub can_number_entry : (t : Inside) → IsKept t → (b : ℕ) (e : Entry) → slice_get t.entries.items b ≡ Some e → CanNumberEntry (new_numbers t.entries.items) e
+can_number_entry t kept b e e_is =
+    parent_below (table_of t).words b (length (new_numbers t.entries.items)) e.origin (word_at (table_of t) b) (kept.entries b e e_is).origin
+    (omega (arith, slice_get_within t.entries.items b e e_is, length-map-range_with_len (λ b. count_by is_live_entry (take b t.entries.items)) 0 (length t.entries.items)))
 
 -- the id that an entry was at
 pub old_entry : (t : Inside) → IsKept t → (k : ℕ) (d : Entry) → k < length (filter is_live_entry t.entries.items)
@@ -120,10 +91,8 @@ old_entry t kept k d lt =
     ∙ of_live-at T.forwards t.entries.items old.0 d entries old.1 in
     (old.0, old.1, old.2, slice_get-get_or t.entries.items old.0 d (omega (arith, entries, slice_get_within T.forwards old.0 None old.1)) ∙ ap Some (sym here))
 
-pub can_number_entries : (t : Inside) → IsKept t → NamesLiveIds (table_of t) → All (CanNumberEntry (new_numbers t.entries.items)) (filter is_live_entry t.entries.items)
-can_number_entries t kept live k d lt =
-    let old = old_entry t kept k d lt in
-    can_number_entry t kept live old.0 (get_or (filter is_live_entry t.entries.items) k d) old.1 old.3
+pub can_number_entries : (t : Inside) → IsKept t → All (CanNumberEntry (new_numbers t.entries.items)) (filter is_live_entry t.entries.items)
+can_number_entries t kept k d lt = let old = old_entry t kept k d lt in can_number_entry t kept old.0 (get_or (filter is_live_entry t.entries.items) k d) old.3
 
 pub can_number_images : (t : Inside) → IsKept t → NamesLiveIds (table_of t) → All (CanNumber (new_numbers t.entries.items)) t.images.items
 can_number_images t kept live k d lt =
@@ -182,41 +151,91 @@ dropped_forwards t kept new are =
     none None is = refl
     none (Some v) is = absurd (let bad : false ≡ true = is in cc)
 
-dropped_rows : (t : Inside) → IsKept t → NamesLiveIds (table_of t) → (new : List Entry) → AreDropped t new
-    → map (λ (e : Entry). places t.presentation.presentation.names e.rows.items) new ≡ map (map (option_map (renumbered (table_of t)))) (of_live (table_of t).forwards (table_of t).rows)
-dropped_rows t kept live new are =
-    let names = t.presentation.presentation.names in
-    let T : ActionTable = table_of t in
-    let es : List Entry = t.entries.items in
-    map_pairs (λ (e : Entry). places names e.rows.items) (λ (e : Entry). map (option_map (renumbered T)) (places names e.rows.items)) new (filter is_live_entry es) (sym are.count)
-    (λ k c d lt. let in' : k < length (filter is_live_entry es) = omega (arith, lt, are.count) in
-    ap (λ (e : Entry). places names e.rows.items) (get_or_default new k c d lt) ∙ at k d in')
-    ∙ sym (map_twice (λ (e : Entry). places names e.rows.items) (map (option_map (renumbered T))) (filter is_live_entry es))
-    ∙ ap (map (map (option_map (renumbered T)))) (sym (live_filter (λ (e : Entry). places names e.rows.items) es))
-  where
-    at : (k : ℕ) (d : Entry) → k < length (filter is_live_entry t.entries.items)
-        → places t.presentation.presentation.names (get_or new k d).rows.items ≡ map (option_map (renumbered (table_of t))) (places t.presentation.presentation.names (get_or (filter is_live_entry t.entries.items) k d).rows.items)
-    at k d lt =
-        let names = t.presentation.presentation.names in
-        let e : Entry = get_or (filter is_live_entry t.entries.items) k d in
-        let old = old_entry t kept k d lt in
-        ap (places names) ((are.each k d lt).rows
-        ∙ map_same (option_map (numbered (new_numbers t.entries.items))) (option_map (renumbered (table_of t))) e.rows.items (λ x c inside. each old.0 x e c old.1 old.3 inside (get_or e.rows.items x c) refl))
-        ∙ places-map names (renumbered (table_of t)) e.rows.items
-      where
-        each : (b x : ℕ) (e : Entry) (c : Option Row) → IsLive (table_of t) b → slice_get t.entries.items b ≡ Some e → x < length e.rows.items → (o : Option Row) → get_or e.rows.items x c ≡ o
-            → option_map (numbered (new_numbers t.entries.items)) (get_or e.rows.items x c) ≡ option_map (renumbered (table_of t)) (get_or e.rows.items x c)
-        each b x e c is_live e_is inside None is = rw is refl
-        each b x e c is_live e_is inside (Some v) is =
-            rw is (ap Some (vector_numbered t kept v (live.rows b x v is_live (row_live t kept live b x e c v is_live e_is inside is))))
+-- the rows
 
-pub dropped : (t : Inside) → IsKept t → NamesLiveIds (table_of t) → (new : List Entry) → AreDropped t new
-    → tabled t.presentation t.level (map (numbered (new_numbers t.entries.items)) t.images.items) new ≡ without_dead (table_of t)
-dropped t kept live new are =
+-- how many ids below are live, counted over entries
+live_entries_below : (t : Inside) → IsKept t → (b : ℕ) → count_by is_live_entry (take b t.entries.items) ≡ live_below (table_of t) b
+live_entries_below t kept b =
+    alive_entries (take b t.entries.items) ∙ ap alive (sym (take-map (λ (e : Entry). e.forward) b t.entries.items)) ∙ sym (number_is (table_of t) b kept.sound.one_forward_each)
+
+all_live_entries : (t : Inside) → IsKept t → count_by is_live_entry t.entries.items ≡ length (live_words (table_of t))
+all_live_entries t kept = alive_entries t.entries.items ∙ sym (live_count (table_of t) kept.sound.one_forward_each)
+
+-- the entry of a live id
+live_entry : (t : Inside) → IsKept t → (b : ℕ) → IsLive (table_of t) b → (e : Entry) × (slice_get t.entries.items b ≡ Some e) × (e.forward ≡ None)
+live_entry t kept b is_live =
+    let found = some_back (λ (e : Entry). e.forward) (slice_get t.entries.items b) None (sym (slice_get-map (λ (e : Entry). e.forward) t.entries.items b) ∙ is_live) in
+    (found.0, found.1, found.2)
+
+-- what stands at a live id's new number
+kept_row : (t : Inside) → IsKept t → (new : List (Option Row)) → AreLiveRows (letter_count t.presentation.presentation) t.entries.items t.rows.items new → (b x : ℕ) → IsLive (table_of t) b → x < letter_count t.presentation.presentation
+    → get_or new (live_below (table_of t) b * letter_count t.presentation.presentation + x) None ≡ row_at (table_of t) b x
+kept_row t kept new are b x is_live letter =
+    let e = live_entry t kept b is_live in
+    ap (λ k. get_or new (k * letter_count t.presentation.presentation + x) None) (sym (live_entries_below t kept b)) ∙ are.rows b x e.0 e.1 e.2 letter ∙ row_here t kept b x letter
+
+pub can_number_rows : (t : Inside) → IsKept t → NamesLiveIds (table_of t) → (new : List (Option Row)) → AreLiveRows (letter_count t.presentation.presentation) t.entries.items t.rows.items new
+    → All (λ row. IfSome row (CanNumber (new_numbers t.entries.items))) new
+can_number_rows t kept live new are j d lt =
+    let T : ActionTable = table_of t in
+    let n : ℕ = letter_count t.presentation.presentation in
+    let place = at_place n (length (live_words T)) j (omega (arith, lt, are.within, ap (λ k. k * n) (all_live_entries t kept))) in
+    let old = old_id T place.0 kept.sound.one_forward_each place.2 in
+    let here : get_or new j d ≡ row_at T old.0 place.1 =
+    get_or_default new j d None lt ∙ ap (λ k. get_or new k None) (place.4 ∙ ap (λ k. k * n + place.1) (sym old.2)) ∙ kept_row t kept new are old.0 place.1 old.1 place.3 in
+    subst (λ o. IfSome o (CanNumber (new_numbers t.entries.items))) (sym here) (each old.0 place.1 old.1 (row_at T old.0 place.1) refl)
+  where
+    each : (b x : ℕ) → IsLive (table_of t) b → (o : Option Row) → row_at (table_of t) b x ≡ o → IfSome o (CanNumber (new_numbers t.entries.items))
+    each b x is_live None is = tt
+    each b x is_live (Some v) is = can_number t kept (presented (table_of t)).prime v (live.rows b x v is_live is) (kept.sound.rows b x v is).stands.row.0
+
+abbrev pub renumbered_rows : List Entry → List (Option Row) → List (Option Row)
+renumbered_rows es new = map (option_map (numbered (new_numbers es))) new
+
+few_dropped : (t : Inside) → IsKept t → (new : List (Option Row)) → AreLiveRows (letter_count t.presentation.presentation) t.entries.items t.rows.items new
+    → length (renumbered_rows t.entries.items new) ≤ length (live_words (table_of t)) * letter_count t.presentation.presentation
+few_dropped t kept new are =
+    omega (arith, length-map new (option_map (numbered (new_numbers t.entries.items))), are.within, ap (λ k. k * letter_count t.presentation.presentation) (all_live_entries t kept))
+
+dropped_agree : (t : Inside) → IsKept t → NamesLiveIds (table_of t) → (new : List (Option Row)) → AreLiveRows (letter_count t.presentation.presentation) t.entries.items t.rows.items new
+    → Agree (letter_count t.presentation.presentation) (renumbered_rows t.entries.items new) (without_dead (table_of t)).rows
+dropped_agree t kept live new are c x letter = by (cases_lt c (length (live_words T)))
+  where
+    T : ActionTable
+    T = table_of t
+
+    n : ℕ
+    n = letter_count t.presentation.presentation
+
+    same : length T.forwards ≡ length T.words
+    same = kept.sound.one_forward_each
+
+    each : (b : ℕ) → IsLive T b → (o : Option Row) → row_at T b x ≡ o → option_map (numbered (new_numbers t.entries.items)) o ≡ option_map (renumbered T) o
+    each b is_live None is = refl
+    each b is_live (Some v) is = ap Some (vector_numbered t kept v (live.rows b x v is_live is))
+
+    at_live : (b : ℕ) → IsLive T b → get_or (renumbered_rows t.entries.items new) (live_below T b * n + x) None ≡ row_at (without_dead T) (live_below T b) x
+    at_live b is_live =
+        get_or-map_default (option_map (numbered (new_numbers t.entries.items))) new (live_below T b * n + x) None
+        ∙ ap (option_map (numbered (new_numbers t.entries.items))) (kept_row t kept new are b x is_live letter) ∙ each b is_live (row_at T b x) refl
+        ∙ sym (row_kept T b x same kept.sound.one_row_list_each is_live)
+
+    by : (c < length (live_words T)) ⊎ (length (live_words T) ≤ c) → get_or (renumbered_rows t.entries.items new) (c * n + x) None ≡ row_at (without_dead T) c x
+    by (inl lt) = let old = old_id T c same lt in subst (λ k. get_or (renumbered_rows t.entries.items new) (k * n + x) None ≡ row_at (without_dead T) k x) old.2 (at_live old.0 old.1)
+    by (inr past) =
+        get_or_past (renumbered_rows t.entries.items new) (c * n + x) None (omega (arith, few_dropped t kept new are, place_past n (length (live_words T)) c x past))
+        ∙ sym (no_id (without_dead T).rows c x (omega (arith, past, (sound_dropped T kept.sound live).one_row_list_each)))
+
+pub dropped : (t : Inside) → IsKept t → NamesLiveIds (table_of t) → (entries : List Entry) (rows : List (Option Row)) → AreDropped t entries → AreLiveRows (letter_count t.presentation.presentation) t.entries.items t.rows.items rows
+    → tabled t.presentation t.level (map (numbered (new_numbers t.entries.items)) t.images.items) (renumbered_rows t.entries.items rows) entries ≡ without_dead (table_of t)
+dropped t kept live entries rows are are_rows =
+    let sound = sound_dropped (table_of t) kept.sound live in
+    let n : ℕ = letter_count t.presentation.presentation in
     rw (
-      dropped_words t kept live new are,
-      dropped_forwards t kept new are,
-      dropped_rows t kept live new are,
+      dropped_words t kept live entries are,
+      dropped_forwards t kept entries are,
+      listed_is n (length entries) (renumbered_rows t.entries.items rows) (without_dead (table_of t)).rows (sound.one_row_list_each ∙ sym (length_dropped t kept entries are)) sound.one_place_each
+          (dropped_agree t kept live rows are_rows),
       map_same (numbered (new_numbers t.entries.items)) (renumbered (table_of t)) t.images.items (λ k d lt. vector_numbered t kept (get_or t.images.items k d) (live.images k d lt)),
     )
     refl
@@ -230,7 +249,6 @@ entries_dropped t kept live new are k f found =
     let own = kept.entries old.0 e old.3 in
     let is = subst (IsNumbered (new_numbers t.entries.items) e) (get_or_from_slice_get new k f f found) (are.each k f lt) in
     let word : word_at T old.0 ≡ get_or (live_words T) k (generator 0) = sym (word_kept T old.0 (generator 0) kept.sound.one_forward_each old.1) ∙ ap (λ n. get_or (live_words T) n (generator 0)) old.2 in
-    let same : length f.rows.items ≡ length e.rows.items = ap length is.rows ∙ length-map e.rows.items (option_map (numbered (new_numbers t.entries.items))) in
     record {
       origin = subst (λ w. IsOriginOf (live_words T) k f.origin w) word
           (subst (λ p. IsOriginOf (live_words T) k p (word_at T old.0)) (sym is.origin)
@@ -238,20 +256,20 @@ entries_dropped t kept live new are k f found =
           (origin_kept t kept live old.0 e.origin old.1 own.origin)));
       own_reach = is.own_reach ∙ own.own_reach ∙ ap (reach (presented T)) word;
       own_length = is.own_length ∙ own.own_length ∙ ap word_length word;
-      room = elim own.room [
-        | inl empty ↦ inl (is.rows ∙ ap (map (option_map (numbered (new_numbers t.entries.items)))) empty)
-        | inr full ↦ inr (same ∙ full)
-      ];
     }
 
-pub kept_dropped : (t u : Inside) → IsKept t → NamesLiveIds (table_of t) → AreDropped t u.entries.items → table_of u ≡ without_dead (table_of t) → u.live ≡ t.live → u.presentation ≡ t.presentation → u.reaches ≡ t.reaches → IsKept u
-kept_dropped t u kept live are same live_same presentation reaches =
+pub kept_dropped : (t u : Inside) → IsKept t → NamesLiveIds (table_of t) → AreDropped t u.entries.items → (rows : List (Option Row)) → AreLiveRows (letter_count t.presentation.presentation) t.entries.items t.rows.items rows
+    → u.rows.items ≡ renumbered_rows t.entries.items rows → table_of u ≡ without_dead (table_of t) → u.live ≡ t.live → u.presentation ≡ t.presentation → u.reaches ≡ t.reaches → IsKept u
+kept_dropped t u kept live are rows are_rows rows_are same live_same presentation reaches =
     let T : ActionTable = table_of t in
-    let sound = sound_dropped T kept.sound live (length-map t.entries.items (λ (e : Entry). places t.presentation.presentation.names e.rows.items) ∙ one_entry_each t kept) in
+    let sound = sound_dropped T kept.sound live in
+    let n : ℕ = letter_count t.presentation.presentation in
+    let few : length u.rows.items ≤ length u.entries.items * n = omega (arith, ap length rows_are, few_dropped t kept rows are_rows, ap (λ k. k * n) (length_dropped t kept u.entries.items are)) in
     record {
       sound = subst IsSound (sym same) sound;
       entries = λ b e found. subst (λ U. IsEntryOf U b e) (sym same) (entries_dropped t kept live u.entries.items are b e found);
       count = omega (arith, kept.count, length_dropped t kept u.entries.items are, live_count T kept.sound.one_forward_each, alive_filter t.entries.items, length_filter t.entries.items);
+      few_places = subst (λ d. length u.rows.items ≤ length u.entries.items * letter_count d.presentation) (sym presentation) few;
       live_count = live_same ∙ kept.live_count ∙ ap length (sym (all_live (map none (live_words T)) (live_words T) (nones (live_words T)) (length-map (live_words T) none))) ∙ ap (λ U. length (live_words U)) (sym same);
       own_reaches = subst (λ d. AreReaches d.presentation u.reaches) (sym presentation) (subst (λ r. AreReaches t.presentation.presentation r) (sym reaches) kept.own_reaches);
     }
@@ -263,10 +281,18 @@ kept_dropped t u kept live are same live_same presentation reaches =
     length_filter es = omega (arith, length-filter is_live_entry es, count_by-le-length is_live_entry es)
 
 -- the same by what the steps say
-pub dropped_by_steps : (t : Inside) → IsKept t → NamesLiveIds (table_of t) → (numbers : List ℕ) (cut new : List Entry) (images : List Row) → numbers ≡ new_numbers t.entries.items → cut ≡ filter is_live_entry t.entries.items
-    → AreNumbered numbers cut new → images ≡ map (numbered numbers) t.images.items → AreDropped t new × (tabled t.presentation t.level images new ≡ without_dead (table_of t))
-dropped_by_steps t kept live numbers cut new images numbers_are cut_is are images_are =
-    let dropped_new : AreDropped t new = subst (λ n. AreNumbered n (filter is_live_entry t.entries.items) new) numbers_are (subst (λ l. AreNumbered numbers l new) cut_is are) in (
-      dropped_new,
-      ap (λ l. tabled t.presentation t.level l new) (images_are ∙ ap (λ n. map (numbered n) t.images.items) numbers_are) ∙ dropped t kept live new dropped_new,
-    )
+pub dropped_entries : (t : Inside) (numbers : List ℕ) (cut new : List Entry) → numbers ≡ new_numbers t.entries.items → cut ≡ filter is_live_entry t.entries.items → AreNumbered numbers cut new → AreDropped t new
+dropped_entries t numbers cut new numbers_are cut_is are =
+    subst (λ n. AreNumbered n (filter is_live_entry t.entries.items) new) numbers_are (subst (λ l. AreNumbered numbers l new) cut_is are)
+
+pub live_rows : (t : Inside) → IsKept t → (letters : ℕ) (entries : List Entry) (new : List (Option Row)) → letters ≡ length t.presentation.presentation.weights → entries ≡ t.entries.items → AreLiveRows letters entries t.rows.items new
+    → AreLiveRows (letter_count t.presentation.presentation) t.entries.items t.rows.items new
+live_rows t kept letters entries new letters_are entries_are are =
+    subst (λ n. AreLiveRows n t.entries.items t.rows.items new) (letters_are ∙ kept.sound.valid.presentation.one_weight_each) (subst (λ l. AreLiveRows letters l t.rows.items new) entries_are are)
+
+-- the table after the steps
+pub dropped_view : (t : Inside) → IsKept t → NamesLiveIds (table_of t) → (entries : List Entry) (kept_rows rows : List (Option Row)) (images : List Row) → AreDropped t entries
+    → AreLiveRows (letter_count t.presentation.presentation) t.entries.items t.rows.items kept_rows → rows ≡ renumbered_rows t.entries.items kept_rows → images ≡ map (numbered (new_numbers t.entries.items)) t.images.items
+    → tabled t.presentation t.level images rows entries ≡ without_dead (table_of t)
+dropped_view t kept live entries kept_rows rows images are are_rows rows_are images_are =
+    ap₂ (λ l r. tabled t.presentation t.level l r entries) images_are rows_are ∙ dropped t kept live entries kept_rows are are_rows

@@ -1,20 +1,24 @@
 -- A row or an image is put in another's place.
-use Rattle.std.proofs.Common.{false, true, ◌≡◌, ℕ, ◌<◌, ◌⊎◌, inl, inr, Some, None, List, [], length, map, get_or, refl, sym, ap, subst, ◌∙◌, arith}
+use Rattle.std.proofs.Common.{false, true, ◌≡◌, ℕ, ◌+◌, ◌*◌, ◌<◌, ◌≤◌, ◌⊎◌, inl, inr, Some, None, List, [], length, get_or, refl, sym, ap, ap₂, subst, ◌∙◌, arith}
 use Rattle.std.specs.Prelude.{Option, IsSome, slice_get}
 use Rattle.std.proofs.Math.ListN.{set}
-use Rattle.std.proofs.lemmas.List.{length-set, map-set, take_at, get_or-set_same, get_or-set_other, get_or_past, get_or-map}
-use Rattle.std.proofs.Math.Seq.{map-set_same}
+use Rattle.std.proofs.lemmas.List.{length-set, get_or-set_same, get_or-set_other, get_or_past}
+use Rattle.std.proofs.lemmas.List.Elements.{All-set}
 use Rattle.std.proofs.lemmas.Bool.{cases_eq, cases_lt}
 use Rattle.ve_pres.specs.Drafts.{Draft}
-use Rattle.ve_table.specs.Books.{words_of}
 use Rattle.ve_theory.specs.Words.{Word}
+use Rattle.ve_theory.specs.Presentations.{letter_count}
 use Rattle.ve_theory.specs.Answers.{Row}
-use Rattle.ve_table.specs.Tables.{ActionTable, row_at}
+use Rattle.ve_table.specs.Tables.{ActionTable, presented, row_at, live_words}
+use Rattle.ve_table.specs.Reaches.{AreReaches}
 use Rattle.ve_table.specs.Sound.{IsSound, IsVectorOf, IsRowOf, IsImageOf, StandsFor}
 use Rattle.ve_table.specs.Changes.{with_row, with_image}
-use Rattle.ve_table.specs.Kept.{places, IsEntryOf}
+use Rattle.ve_table.specs.Rows.{listed}
+use Rattle.ve_table.specs.Kept.{table_of, IsEntryOf, IsKept}
+use Rattle.ve_table.specs.declared.table.Table.TheInside.{Inside}
 use Rattle.ve_table.specs.declared.entry.Entry.{Entry}
-use Rattle.ve_table.proofs.Entries.{same_some}
+use Rattle.ve_table.proofs.Entries.{same_some, tabled, has_entry, row_here}
+use Rattle.ve_table.proofs.Listed.{row_in, count_listed, wide_listed, listed_agrees, listed_is, set_agrees}
 use Rattle.ve_table.proofs.Killing.{read_set}
 
 -- images
@@ -26,6 +30,8 @@ sound_imaged T i v sound is_image = record {
   rising = sound.rising;
   prefixes = sound.prefixes;
   one_forward_each = sound.one_forward_each;
+  one_row_list_each = sound.one_row_list_each;
+  one_place_each = sound.one_place_each;
   one_image_each = length-set T.images i v ∙ sound.one_image_each;
   forwards = λ c u found. let forward = sound.forwards c u found in record { stands = stood forward.stands; below = forward.below };
   due = sound.due;
@@ -45,12 +51,9 @@ sound_imaged T i v sound is_image = record {
 
 pub kept_imaged : (T : ActionTable) (items : List Entry) (i : ℕ) (v : Row) → ((c : ℕ) (f : Entry) → slice_get items c ≡ Some f → IsEntryOf T c f)
     → (c : ℕ) (f : Entry) → slice_get items c ≡ Some f → IsEntryOf (with_image T i v) c f
-kept_imaged T items i v each c f found = let own = each c f found in record { origin = own.origin; own_reach = own.own_reach; own_length = own.own_length; room = own.room }
+kept_imaged T items i v each c f found = let own = each c f found in record { origin = own.origin; own_reach = own.own_reach; own_length = own.own_length }
 
 -- rows
-
-abbrev pub row_in : List (List (Option Row)) → ℕ → ℕ → Option Row
-row_in rows b x = get_or (get_or rows b []) x None
 
 pub none_is_some : {X : Type 0} (o : Option X) → o ≡ None → IsSome o → ⊥
 none_is_some o none some = let bad : false ≡ true = subst IsSome none some in cc
@@ -95,6 +98,10 @@ sound_rowed T b x v sound is_some is_row = record {
   rising = sound.rising;
   prefixes = sound.prefixes;
   one_forward_each = sound.one_forward_each;
+  one_row_list_each = length-set T.rows b (set (get_or T.rows b []) x (Some v)) ∙ sound.one_row_list_each;
+  one_place_each =
+      All-set (λ (row : List (Option Row)). length row ≡ letter_count (presented T)) T.rows b (set (get_or T.rows b []) x (Some v))
+      (length-set (get_or T.rows b []) x (Some v) ∙ sound.one_place_each b [] (place_of T.rows b x is_some).0) sound.one_place_each;
   one_image_each = sound.one_image_each;
   forwards = λ c u found. let forward = sound.forwards c u found in record { stands = stood forward.stands; below = forward.below };
   due = λ c y.
@@ -116,66 +123,60 @@ sound_rowed T b x v sound is_some is_row = record {
     seen : {w : Word} {u : Row} → IsVectorOf T w u → IsVectorOf (with_row T b x v) w u
     seen vector = record { stands = stood vector.stands; not_after = vector.not_after }
 
--- the places of an id that has one for each letter are its rows
-pub places_full : {X : Type 0} (names : List X) (rows : List (Option Row)) → length rows ≡ length names → places names rows ≡ rows
-places_full names rows full = take_at rows (map (λ _. None) names) (length names) full
-
-abbrev pub tabled : Draft → ℕ → List Row → List Entry → ActionTable
-tabled draft level images items = record {
-  draft = draft;
-  level = level;
-  words = words_of (map (λ (e : Entry). e.origin) items);
-  forwards = map (λ (e : Entry). e.forward) items;
-  rows = map (λ (e : Entry). places draft.presentation.names e.rows.items) items;
-  images = images;
-}
-
 -- the table with another row
-pub rowed : (draft : Draft) (level : ℕ) (images : List Row) (items : List Entry) (b x : ℕ) (e new : Entry) (v : Row)
-    → e ≡ get_or items b e → b < length items → new.origin ≡ e.origin → new.forward ≡ e.forward → new.rows.items ≡ set e.rows.items x (Some v)
-    → length e.rows.items ≡ length draft.presentation.names
-    → tabled draft level images (set items b new) ≡ with_row (tabled draft level images items) b x v
-rowed draft level images items b x e new v e_is inside origin forward written full =
-    let names = draft.presentation.names in
-    let same_origins : map (λ (e : Entry). e.origin) (set items b new) ≡ map (λ (e : Entry). e.origin) items =
-    map-set_same (λ (e : Entry). e.origin) items b new e (origin ∙ ap (λ (e : Entry). e.origin) e_is) in
-    let same_forwards : map (λ (e : Entry). e.forward) (set items b new) ≡ map (λ (e : Entry). e.forward) items =
-    map-set_same (λ (e : Entry). e.forward) items b new e (forward ∙ ap (λ (e : Entry). e.forward) e_is) in
-    let old_row : get_or (map (λ (e : Entry). places names e.rows.items) items) b [] ≡ e.rows.items =
-    get_or-map (λ (e : Entry). places names e.rows.items) items b e [] inside ∙ ap (λ (e : Entry). places names e.rows.items) (sym e_is) ∙ places_full names e.rows.items full in
-    let new_row : places names new.rows.items ≡ set e.rows.items x (Some v) =
-    places_full names new.rows.items (ap length written ∙ length-set e.rows.items x (Some v) ∙ full) ∙ written in
-    let same_rows : map (λ (e : Entry). places names e.rows.items) (set items b new)
-    ≡ set (map (λ (e : Entry). places names e.rows.items) items) b (set (get_or (map (λ (e : Entry). places names e.rows.items) items) b []) x (Some v)) =
-    map-set (λ (e : Entry). places names e.rows.items) items b new
-    ∙ ap (λ r. set (map (λ (e : Entry). places names e.rows.items) items) b r) (new_row ∙ ap (λ r. set r x (Some v)) (sym old_row)) in
-    rw (same_origins, same_forwards, same_rows) refl
+pub rowed : (draft : Draft) (level : ℕ) (images : List Row) (rows : List (Option Row)) (items : List Entry) (b x : ℕ) (v : Row) → length rows ≤ length items * letter_count draft.presentation → b < length items
+    → x < letter_count draft.presentation → b * letter_count draft.presentation + x < length rows
+    → tabled draft level images (set rows (b * letter_count draft.presentation + x) (Some v)) items ≡ with_row (tabled draft level images rows items) b x v
+rowed draft level images rows items b x v few id letter place =
+    let n : ℕ = letter_count draft.presentation in
+    let lists : List (List (Option Row)) = listed n (length items) rows in
+    let wide = wide_listed n (length items) rows in
+    let inside : b < length lists = omega (arith, id, count_listed n (length items) rows) in
+    let width : length (get_or lists b []) ≡ n = wide b [] inside in
+    ap (λ (r : List (List (Option Row))). record (tabled draft level images rows items) { rows = r })
+    (listed_is n (length items) (set rows (b * n + x) (Some v)) (set lists b (set (get_or lists b []) x (Some v))) (length-set lists b (set (get_or lists b []) x (Some v)) ∙ count_listed n (length items) rows)
+    (All-set (λ (row : List (Option Row)). length row ≡ n) lists b (set (get_or lists b []) x (Some v)) (length-set (get_or lists b []) x (Some v) ∙ width) wide)
+    (set_agrees n rows lists b x (Some v) (listed_agrees n (length items) rows few) inside letter width place))
 
-pub kept_rowed : (T : ActionTable) (items : List Entry) (b x : ℕ) (v : Row) (new : Entry) → ((c : ℕ) (f : Entry) → slice_get items c ≡ Some f → IsEntryOf T c f) → IsEntryOf T b new
-    → (c : ℕ) (f : Entry) → slice_get (set items b new) c ≡ Some f → IsEntryOf (with_row T b x v) c f
-kept_rowed T items b x v new each own c f found =
-    again
-    (elim (read_set items b c new f found) [
-      | inl (same_id, same_entry) ↦ subst (λ n. IsEntryOf T n f) same_id (subst (λ g. IsEntryOf T b g) same_entry own)
-      | inr there ↦ each c f there
-    ])
-  where
-    again : IsEntryOf T c f → IsEntryOf (with_row T b x v) c f
-    again own = record { origin = own.origin; own_reach = own.own_reach; own_length = own.own_length; room = own.room }
+pub kept_rowed : (T : ActionTable) (items : List Entry) (b x : ℕ) (v : Row) → ((c : ℕ) (f : Entry) → slice_get items c ≡ Some f → IsEntryOf T c f)
+    → (c : ℕ) (f : Entry) → slice_get items c ≡ Some f → IsEntryOf (with_row T b x v) c f
+kept_rowed T items b x v each c f found = let own = each c f found in record { origin = own.origin; own_reach = own.own_reach; own_length = own.own_length }
 
--- an entry that has a row is full
-pub full_entry : (T : ActionTable) (b x : ℕ) (e : Entry) → IsEntryOf T b e → IsSome (get_or e.rows.items x None) → (x < length e.rows.items) × (length e.rows.items ≡ length T.draft.presentation.names)
-full_entry T b x e own is_some = (
-  elim (cases_lt x (length e.rows.items)) [
-    | inl lt ↦ lt
-    | inr past ↦ absurd (none_is_some (get_or e.rows.items x None) (get_or_past e.rows.items x None past) is_some)
-  ],
-  elim own.room [
-    | inl none ↦ absurd (none_is_some (get_or e.rows.items x None) (ap (λ l. get_or l x None) none ∙ get_or_past [] x None (omega arith)) is_some)
-    | inr full ↦ full
-  ],
-)
+-- a row that is there has a place in the list
+pub has_place : (t : Inside) → IsKept t → (b x : ℕ) → IsSome (row_at (table_of t) b x) → (b < length t.entries.items) × (x < letter_count t.presentation.presentation) × (b * letter_count t.presentation.presentation + x < length t.rows.items)
+has_place t kept b x is_some =
+    let due = (kept.sound.due b x).0 is_some in
+    let place : ℕ = b * letter_count t.presentation.presentation + x in (
+      has_entry t kept b due.0,
+      due.1,
+      elim (cases_lt place (length t.rows.items)) [
+        | inl lt ↦ lt
+        | inr past ↦ absurd (none_is_some (row_at (table_of t) b x) (sym (row_here t kept b x due.1) ∙ get_or_past t.rows.items place None past) is_some)
+      ],
+    )
 
--- what has a row is an id
-pub id_of_row : (T : ActionTable) (b x : ℕ) → IsSound T → IsSome (row_at T b x) → b < length T.words
-id_of_row T b x sound is_some = ((sound.due b x).0 is_some).0
+-- the place as a call has it
+pub set_place : (t : Inside) → IsKept t → (b x letters y : ℕ) → letters ≡ length t.presentation.presentation.weights → y ≡ x → b * letters + y ≡ b * letter_count t.presentation.presentation + x
+set_place t kept b x letters y letters_are y_is = ap₂ (λ n z. b * n + z) (letters_are ∙ kept.sound.valid.presentation.one_weight_each) y_is
+
+-- the table with a row set
+pub row_set : (t : Inside) → IsKept t → (b x place : ℕ) (v : Row) → place ≡ b * letter_count t.presentation.presentation + x → IsSome (row_at (table_of t) b x)
+    → tabled t.presentation t.level t.images.items (set t.rows.items place (Some v)) t.entries.items ≡ with_row (table_of t) b x v
+row_set t kept b x place v place_is is_some =
+    let there = has_place t kept b x is_some in
+    ap (λ k. tabled t.presentation t.level t.images.items (set t.rows.items k (Some v)) t.entries.items) place_is
+    ∙ rowed t.presentation t.level t.images.items t.rows.items t.entries.items b x v kept.few_places there.0 there.1 there.2
+
+pub kept_with_row : (t u : Inside) → IsKept t → (b x place : ℕ) (v : Row) → IsSome (row_at (table_of t) b x) → IsRowOf (table_of t) b x v → table_of u ≡ with_row (table_of t) b x v → u.rows.items ≡ set t.rows.items place (Some v)
+    → u.entries.items ≡ t.entries.items → u.presentation ≡ t.presentation → u.live ≡ t.live → u.reaches ≡ t.reaches → IsKept u
+kept_with_row t u kept b x place v is_some is_row same rows entries presentation live reaches = record {
+  sound = subst IsSound (sym same) (sound_rowed (table_of t) b x v kept.sound is_some is_row);
+  entries = λ c f found. subst (λ U. IsEntryOf U c f) (sym same) (kept_rowed (table_of t) t.entries.items b x v kept.entries c f (subst (λ l. slice_get l c ≡ Some f) entries found));
+  count = omega (arith, kept.count, ap length entries);
+  few_places =
+      let count : length u.rows.items ≡ length t.rows.items = ap length rows ∙ length-set t.rows.items place (Some v) in
+      let few : length u.rows.items ≤ length u.entries.items * letter_count t.presentation.presentation = omega (arith, count, kept.few_places, ap (λ l. length l * letter_count t.presentation.presentation) entries) in
+      subst (λ d. length u.rows.items ≤ length u.entries.items * letter_count d.presentation) (sym presentation) few;
+  live_count = live ∙ kept.live_count ∙ ap (λ U. length (live_words U)) (sym same);
+  own_reaches = subst (λ d. AreReaches d.presentation u.reaches) (sym presentation) (subst (λ r. AreReaches t.presentation.presentation r) (sym reaches) kept.own_reaches);
+}

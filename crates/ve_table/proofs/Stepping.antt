@@ -11,7 +11,7 @@ use Rattle.ve_theory.specs.Answers.{Row}
 use Rattle.ve_theory.specs.Words.{Word, generator, Weighted, word_weight}
 use Rattle.ve_theory.specs.Presentations.{Presentation, reach}
 use Rattle.ve_theory.specs.Levels.{steps_to}
-use Rattle.ve_table.specs.Tables.{ActionTable, presented, word_at, of_live, live_words}
+use Rattle.ve_table.specs.Tables.{ActionTable, presented, reach_at, word_at, of_live, live_words}
 use Rattle.ve_table.specs.Kept.{table_of, IsKept}
 use Rattle.ve_table.specs.declared.table.Table.TheInside.{Inside}
 use Rattle.ve_table.proofs.Entries.{one_entry_each}
@@ -136,3 +136,7 @@ pub steps_of_words : (t : Inside) → IsKept t → (k : ℕ) → sum_by (live_st
 steps_of_words t kept k =
     sum_live t.presentation.presentation k t.entries.items (table_of t).words
     (zipped (λ (e : Entry) w. e.reach ≡ reach t.presentation.presentation w) t.entries.items (table_of t).words (generator 0) (one_entry_each t kept) (λ b e found. (kept.entries b e found).own_reach))
+
+-- an entry's reach is its word's
+pub reach_here : (t : Inside) → IsKept t → (b : ℕ) (d : Entry) → b < length t.entries.items → (get_or t.entries.items b d).reach ≡ reach_at (table_of t) b
+reach_here t kept b d lt = (kept.entries b (get_or t.entries.items b d) (slice_get-get_or t.entries.items b d lt)).own_reach

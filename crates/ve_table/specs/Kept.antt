@@ -1,18 +1,14 @@
 -- What a table keeps, and what contracts see of it.
-use Rattle.std.specs.Prelude.{◌≡◌, ℕ, ◌<◌, ◌^◌, ◌⊎◌, List, [], ◌++◌, Option, None, Some, length, map, take, slice_get}
+use Rattle.std.specs.Prelude.{◌≡◌, ℕ, ◌*◌, ◌<◌, ◌≤◌, ◌^◌, Some, length, map, slice_get}
 use Rattle.ve_theory.specs.Words.{word_length}
 use Rattle.ve_theory.specs.Presentations.{reach, letter_count}
-use Rattle.ve_theory.specs.Answers.{Row}
 use Rattle.ve_table.specs.Tables.{ActionTable, presented, word_at, live_words}
 use Rattle.ve_table.specs.Books.{words_of, IsOriginOf}
+use Rattle.ve_table.specs.Rows.{listed}
 use Rattle.ve_table.specs.Sound.{IsSound}
 use Rattle.ve_table.specs.Reaches.{AreReaches}
 use Rattle.ve_table.specs.declared.entry.Entry.{Entry}
 use Rattle.ve_table.specs.declared.table.Table.TheInside.{Inside}
-
--- the rows of an id: none at each letter, where it has no places yet
-abbrev pub places : {X : Type 0} → List X → List (Option Row) → List (Option Row)
-places names rows = take (length names) (rows ++ map (λ _. None) names)
 
 abbrev pub table_of : Inside → ActionTable
 table_of t = record {
@@ -20,21 +16,21 @@ table_of t = record {
   level = t.level;
   words = words_of (map (λ (e : Entry). e.origin) t.entries.items);
   forwards = map (λ (e : Entry). e.forward) t.entries.items;
-  rows = map (λ (e : Entry). places t.presentation.presentation.names e.rows.items) t.entries.items;
+  rows = listed (letter_count t.presentation.presentation) (length t.entries.items) t.rows.items;
   images = t.images.items;
 }
 
--- an id's entry: origin and numbers are those of its word, and it has places for all letters or for none
+-- an id's entry: origin and numbers are those of its word
 pub record IsEntryOf (T : ActionTable) (b : ℕ) (e : Entry) : Type 0 where
   pub origin : IsOriginOf T.words b e.origin (word_at T b)
   pub own_reach : e.reach ≡ reach (presented T) (word_at T b)
   pub own_length : e.length ≡ word_length (word_at T b)
-  pub room : (e.rows.items ≡ []) ⊎ (length e.rows.items ≡ letter_count (presented T))
 
 -- the table is sound, and what is kept beside it is its own
 pub record IsKept (t : Inside) : Type 0 where
   pub sound : IsSound (table_of t)
   pub entries : (b : ℕ) (e : Entry) → slice_get t.entries.items b ≡ Some e → IsEntryOf (table_of t) b e
   pub count : length t.entries.items < 2 ^ 32
+  pub few_places : length t.rows.items ≤ length t.entries.items * letter_count t.presentation.presentation
   pub live_count : t.live ≡ length (live_words (table_of t))
   pub own_reaches : AreReaches t.presentation.presentation t.reaches

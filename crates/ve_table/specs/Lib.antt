@@ -7,5 +7,6 @@ pub mod Steps
 pub mod Roots
 pub mod Numbers
 pub mod Births
+pub mod Rows
 pub mod Growth
 pub mod Kept

@@ -1,7 +1,7 @@
 -- New numbers for the live ids, in order from 0.
-use Rattle.std.specs.Prelude.{◌≡◌, ℕ, ◌<◌, Bool, List, IfSome, All, length, map, take, count_by, slice_index, slice_index_or}
+use Rattle.std.specs.Prelude.{◌≡◌, ℕ, ◌<◌, Bool, List, All, length, map, take, count_by, slice_index, slice_index_or}
 use Rattle.std.specs.List.{range_with_len}
-use Rattle.std.specs.Option.{option_map, is_none}
+use Rattle.std.specs.Option.{is_none}
 use Rattle.ve_theory.specs.Answers.{Row}
 use Rattle.ve_vec.specs.Vectors.{IsVector, numbered}
 use Rattle.ve_table.specs.declared.origin.Origin.{Origin}
@@ -28,10 +28,9 @@ abbrev pub numbered_origin : List ℕ → Origin → Origin
 numbered_origin numbers (Root i) = Root i
 numbered_origin numbers (Child parent letter) = Child (slice_index numbers parent) letter
 
--- the entry's parent and ids have numbers
-pub record CanNumberEntry (numbers : List ℕ) (e : Entry) : Type 0 where
-  pub parent : HasParentBelow (length numbers) e.origin
-  pub rows : All (λ row. IfSome row (CanNumber numbers)) e.rows.items
+-- the entry's parent has a number
+abbrev pub CanNumberEntry : List ℕ → Entry → Type 0
+CanNumberEntry numbers e = HasParentBelow (length numbers) e.origin
 
 -- an entry as it was, with the new numbers
 pub record IsNumbered (numbers : List ℕ) (old new : Entry) : Type 0 where
@@ -39,7 +38,6 @@ pub record IsNumbered (numbers : List ℕ) (old new : Entry) : Type 0 where
   pub own_reach : new.reach ≡ old.reach
   pub own_length : new.length ≡ old.length
   pub forward : new.forward ≡ old.forward
-  pub rows : new.rows.items ≡ map (option_map (numbered numbers)) old.rows.items
 
 -- so each of a list
 pub record AreNumbered (numbers : List ℕ) (old new : List Entry) : Type 0 where

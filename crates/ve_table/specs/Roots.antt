@@ -1,15 +1,14 @@
 -- The entries of level 0.
-use Rattle.std.specs.Prelude.{◌≡◌, ℕ, List, [], None, map, All}
+use Rattle.std.specs.Prelude.{◌≡◌, ℕ, List, None, map, All}
 use Rattle.std.specs.List.{range_with_len}
 use Rattle.ve_table.specs.declared.origin.Origin.TheVariants.{Root}
 use Rattle.ve_table.specs.declared.entry.Entry.{Entry}
 
--- a live id without letters and rows
+-- a live id without letters
 pub record IsRootEntry (e : Entry) : Type 0 where
   pub own_reach : e.reach ≡ 0
   pub own_length : e.length ≡ 0
   pub live : e.forward ≡ None
-  pub no_rows : e.rows.items ≡ []
 
 -- one for each of the generators, in order
 pub record AreRoots (count : ℕ) (entries : List Entry) : Type 0 where

@@ -1,8 +1,8 @@
 -- What holds of every action table.
-use Rattle.std.specs.Prelude.{◌≡◌, ℕ, ◌<◌, ◌≤◌, ◌↔◌, Some, IsSome, length, slice_get, All, AllPairs, Contains}
+use Rattle.std.specs.Prelude.{◌≡◌, ℕ, ◌<◌, ◌≤◌, ◌↔◌, List, Option, Some, IsSome, length, slice_get, All, AllPairs, Contains}
 use Rattle.ve_theory.specs.Combinations.{unit, difference}
 use Rattle.ve_theory.specs.Words.{Word, generator, times}
-use Rattle.ve_theory.specs.Presentations.{reach, before, IsWord}
+use Rattle.ve_theory.specs.Presentations.{letter_count, reach, before, IsWord}
 use Rattle.ve_theory.specs.Derivations.{DerivedWithin}
 use Rattle.ve_theory.specs.Answers.{Row, IsRow, IsRowUpTo}
 use Rattle.ve_theory.specs.Validity.{IsValid}
@@ -30,13 +30,16 @@ abbrev pub IsImageOf : ActionTable → ℕ → Row → Type 0
 IsImageOf T i v = IsVectorOf T (generator i) v
 
 -- Words are those of the presentation, of reach at most the level, rising in the order of words; each but a generator stands in
--- the book without its last letter too. A product has a row exactly where its reach is at most the level.
+-- the book without its last letter too. Each word has a place for each letter. A product has a row exactly where its reach is at
+-- most the level.
 pub record IsSound (T : ActionTable) : Type 0 where
   pub valid : IsValid (presented T)
   pub words : All (λ w. IsWord (presented T) w × (reach (presented T) w ≤ T.level)) T.words
   pub rising : AllPairs (before (presented T)) T.words
   pub prefixes : (w : Word) (x : ℕ) → Contains T.words (times w x) → Contains T.words w
   pub one_forward_each : length T.forwards ≡ length T.words
+  pub one_row_list_each : length T.rows ≡ length T.words
+  pub one_place_each : All (λ (row : List (Option Row)). length row ≡ letter_count (presented T)) T.rows
   pub one_image_each : length T.images ≡ (presented T).generators
   pub forwards : (b : ℕ) (v : Row) → slice_get T.forwards b ≡ Some (Some v) → IsForwardOf T b v
   pub due : (b x : ℕ) → IsSome (row_at T b x) ↔ IsDue T b x

@@ -27,6 +27,9 @@ presented T = T.draft.presentation
 abbrev pub word_at : ActionTable → ℕ → Word
 word_at T b = slice_index_or T.words b (generator 0)
 
+abbrev pub reach_at : ActionTable → ℕ → ℕ
+reach_at T b = reach (presented T) (word_at T b)
+
 abbrev pub row_at : ActionTable → ℕ → ℕ → Option Row
 row_at T b x = slice_index_or (slice_index_or T.rows b []) x None
 
@@ -49,7 +52,7 @@ element_of T v = combination_of (on_words T.words) v
 
 -- the id times the letter is of reach at most the level
 abbrev pub IsDue : ActionTable → ℕ → ℕ → Type 0
-IsDue T b x = (b < length T.words) × (x < letter_count (presented T)) × (reach (presented T) (word_at T b) + step (presented T) x ≤ T.level)
+IsDue T b x = (b < length T.words) × (x < letter_count (presented T)) × (reach_at T b + step (presented T) x ≤ T.level)
 
 -- what the live ones of the ids have
 unfoldable pub of_live : {X : Type 0} → List (Option Row) → List X → List X

@@ -5,6 +5,7 @@ mod birth;
 mod entry;
 mod origin;
 mod reaches;
+mod rows;
 mod table;
 
 pub use origin::Origin;

@@ -1,11 +1,11 @@
 //! The table and its readers.
 
-ghost use Rattle.std.specs.Prelude.{◌≡◌, ◌+◌, ◌*◌, ◌<◌, ◌≤◌, ◌^◌, ◌↔◌, IsTrue, IsSome, Some, length, slice_get, count_by, nat_eq, sum_by, All, None};
-ghost use Rattle.std.specs.Option.{option_copied};
+ghost use Rattle.std.specs.Prelude.{◌≡◌, ℕ, ◌+◌, ◌*◌, ◌<◌, ◌≤◌, ◌^◌, ◌↔◌, IsTrue, IfNone, IfSome, IsSome, Some, length, slice_get, count_by, nat_eq, position, sum_by, All, None};
+ghost use Rattle.std.specs.Option.{is_some, option_copied};
 ghost use Rattle.ve_theory.specs.Words.{word_length};
 ghost use Rattle.ve_theory.specs.Presentations.{due, element_reach, reach, relator, relators, submodule_relation};
 ghost use Rattle.ve_theory.specs.Validity.{most_letters};
-ghost use Rattle.ve_table.specs.Tables.{IsDue, IsId, IsLive, live_words, presented, row_at, word_at};
+ghost use Rattle.ve_table.specs.Tables.{IsDead, IsDue, IsId, IsLive, live_words, presented, reach_at, row_at, word_at};
 ghost use Rattle.ve_table.specs.Books.{IsOriginOf};
 ghost use Rattle.ve_table.specs.Sound.{IsSound};
 ghost use Rattle.ve_table.specs.Changes.{next_count};
@@ -33,6 +33,8 @@ pub struct Table {
     level: u32,
     // In the order of their words.
     entries: Vec<Entry>,
+    // For each id and then letter. The last ids may have no places yet.
+    rows: Vec<Option<Sparse>>,
     // How many of them are live.
     live: u32,
     images: Vec<Sparse>,
@@ -59,6 +61,13 @@ pub struct Short {
 }
 
 impl Table {
+    /// The table is sound.
+    pub fn is_sound(&self)
+        ensures { IsSound self.now }
+    {
+        self.presentation();
+    }
+
     /// The presentation.
     pub fn presentation(&self) -> &Presentation
         ensures value { result.now ≡ self.now.draft }
@@ -144,7 +153,7 @@ impl Table {
         ensures row { IsTrue result ↔ IsSome (row_at self.now id letter) }
         ensures due { IsTrue result ↔ IsDue self.now id letter }
     {
-        let _table = &self.entries;
+        self.is_sound();
         self.row(id, letter).is_some()
     }
 
@@ -166,9 +175,31 @@ impl Table {
     /// How many ids are live.
     pub fn live_count(&self) -> u32
         ensures count { result ≡ length (live_words self.now) }
-        ensures all { result ≡ length self.now.words → All (λ forward. forward ≡ None) self.now.forwards }
+        ensures all { result ≡ length self.now.words ↔ All (λ forward. forward ≡ None) self.now.forwards }
     {
         self.live
+    }
+
+    /// The least dead id, and `None` where all are live.
+    pub fn least_dead(&self) -> Option<u32>
+        ensures none { IfNone result (All (λ forward. forward ≡ None) self.now.forwards) }
+        ensures dead { IfSome result (IsDead self.now) }
+        ensures least { IfSome result (λ id. (b : ℕ) → b < id → IsLive self.now b) }
+    {
+        if self.live == self.id_count() {
+            return None;
+        }
+        let least = first_dead(&self.entries)?;
+        Some(least as u32)
+    }
+
+    /// The first id of the reach or above. Ids are in the order of their words, so all from it on are.
+    pub fn first_of_reach(&self, reach: u64) -> u32
+        ensures bound { result ≤ length self.now.words }
+        ensures below { (b : ℕ) → b < result → reach_at self.now b < reach }
+        ensures rest { (b : ℕ) → result ≤ b → IsId self.now b → reach ≤ reach_at self.now b }
+    {
+        first_of_reach(&self.entries, reach) as u32
     }
 
     /// How many ids the next level has, where the dead ones are left out.
@@ -183,6 +214,12 @@ impl Table {
         let first = first_of_reach(&self.entries, least);
         u64::from(self.live) + steps_to(&self.entries[first..], weights, next)
     }
+}
+
+fn first_dead(entries: &[Entry]) -> Option<usize>
+    ensures { result ≡ position (λ (e : Entry). is_some e.forward) entries.now }
+{
+    entries.iter().position(|entry| !entry.is_live())
 }
 
 /// How many pairs there are of a live id and a letter whose product has the reach.
@@ -219,8 +256,12 @@ impl Rows for Table {
     ghost rows = { row_at };
 
     fn row(&self, id: u32, letter: u8) -> Option<&Sparse> {
-        match self.entries.get(id as usize) {
-            Some(entry) => entry.row(letter),
+        let letters = self.presentation.weights().len();
+        if usize::from(letter) >= letters {
+            return None;
+        }
+        match self.rows.get(id as usize * letters + usize::from(letter)) {
+            Some(row) => row.as_ref(),
             None => None,
         }
     }

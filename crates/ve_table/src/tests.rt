@@ -34,7 +34,7 @@ fn weighted_table(alloc: Global, field: Field) -> Result<Option<Table>, Memory> 
 
 // Grows a table without dead ids.
 fn grow(table: &mut Table) -> Result<(), Memory> {
-    let _presentation = table.presentation();
+    table.is_sound();
     if table.live_count() != table.id_count() {
         return Ok(());
     }
@@ -47,7 +47,7 @@ fn grow(table: &mut Table) -> Result<(), Memory> {
 
 // Drops no id, where none is dead.
 fn drop_none(table: &mut Table) -> Result<(), Memory> {
-    let _presentation = table.presentation();
+    table.is_sound();
     if table.live_count() != table.id_count() {
         return Ok(());
     }
@@ -57,7 +57,7 @@ fn drop_none(table: &mut Table) -> Result<(), Memory> {
 
 // Puts a row's copy in its place.
 fn put_back(table: &mut Table, id: u32, letter: u8) -> Result<bool, Memory> {
-    let _presentation = table.presentation();
+    table.is_sound();
     let Some(row) = table.row(id, letter) else {
         return Ok(false);
     };
@@ -151,6 +151,7 @@ fn weights_two_and_one(rt: HostRuntime) -> Result<(), Fail> {
         grow(&mut table)?;
         assert_eq!(rt; u64::from(table.live_count()), size);
     }
+    assert_eq!(rt; (table.first_of_reach(2), table.least_dead()), (2, None));
     // e1*y; e1*x, e1*y*y; e1*x*y, e1*y*x, e1*y*y*y; e1*x*x, e1*x*y*y, e1*y*x*y, e1*y*y*x, e1*y*y*y*y
     let origins = [
         (1, 0, 1),

@@ -28,7 +28,9 @@ impl Table {
         ensures row { self.new ≡ with_row self.old id letter row }
         ensures sound { IsSound self.new }
     {
-        self.entries[id as usize].rows[usize::from(letter)] = Some(row);
+        let letters = self.presentation.weights().len();
+        let place = id as usize * letters + usize::from(letter);
+        self.rows[place] = Some(row);
     }
 
     /// Puts a vector in the place of a generator's image.

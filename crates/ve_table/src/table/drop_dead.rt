@@ -6,6 +6,7 @@ ghost use Rattle.ve_table.specs.Numbers.{AreNumbered, CanNumber, CanNumberEntry,
 
 use crate::Table;
 use crate::entry::Entry;
+use crate::rows::{keep_live_rows, renumber_rows};
 use ve_vec::Sparse;
 use ve_word::Memory;
 
@@ -17,9 +18,12 @@ impl Table {
         ensures err { OnErr result (self.new ≡ self.old) }
         ensures sound { IsSound self.new }
     {
+        let letters = self.presentation.weights().len();
         let numbers = new_numbers(&self.entries)?;
+        keep_live_rows(&mut self.rows, &self.entries, letters);
         drop_dead_entries(&mut self.entries);
         renumber_entries(self.entries.as_mut_slice(), &numbers);
+        renumber_rows(self.rows.as_mut_slice(), &numbers);
         renumber_images(self.images.as_mut_slice(), &numbers);
         Ok(())
     }

@@ -20,7 +20,7 @@ impl Table {
         ensures sound { IfOk result IsSound }
     {
         ve_theory::order::reaches_are_bounded();
-        let _field = presentation.field();
+        presentation.is_valid();
         let reaches = Reaches::of(alloc, &presentation)?;
         let roots = presentation.roots() as u8;
         Ok(Table {
@@ -28,6 +28,7 @@ impl Table {
             reaches,
             level: 0,
             entries: root_entries(alloc, roots)?,
+            rows: Vec::new(alloc),
             live: u32::from(roots),
             images: root_images(alloc, roots)?,
         })
@@ -39,7 +40,7 @@ fn root_entries(alloc: Global, roots: u8) -> Result<Vec<Entry>, Memory>
 {
     let mut entries = Vec::with_capacity(alloc, usize::from(roots))?;
     for root in 0..roots {
-        entries.push_reserved(Entry::new(alloc, Origin::Root(root), 0, 0));
+        entries.push_reserved(Entry::new(Origin::Root(root), 0, 0));
     }
     Ok(entries)
 }

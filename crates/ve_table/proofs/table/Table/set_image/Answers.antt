@@ -19,6 +19,7 @@ invariant_of-self c =
       sound = sound_imaged T c.from.result c.args.image c.self.invariant.sound (subst (λ i. IsImageOf T i c.args.image) (sym c.from.ensures) is_image);
       entries = kept_imaged T c.self.inside.entries.items c.from.result c.args.image c.self.invariant.entries;
       count = c.self.invariant.count;
+      few_places = c.self.invariant.few_places;
       live_count = c.self.invariant.live_count;
       own_reaches = c.self.invariant.own_reaches;
     }

@@ -2,8 +2,8 @@ use Rattle.std.proofs.Common.{◌<◌, Some, length, get_or, ap, sym, ◌∙◌,
 use Rattle.std.specs.Option.{option_map}
 use Rattle.ve_vec.specs.Vectors.{numbered}
 use Rattle.ve_table.proofs.InPlace.{map_next}
-use Rattle.ve_table.proofs.entry.renumber_rows.Goals as goal
-use Rattle.ve_table.proofs.entry.renumber_rows.Goals.{in-Some, in_default}
+use Rattle.ve_table.proofs.rows.renumber_rows.Goals as goal
+use Rattle.ve_table.proofs.rows.renumber_rows.Goals.{in-Some, in_default}
 
 pub loop-row-preserved : goal.loop-row-preserved
 loop-row-preserved c =
