@@ -3,6 +3,8 @@ pub mod Adding
 pub mod Rows
 pub mod Tracings
 pub mod Terms
+pub mod Following
+pub mod Walking
 pub mod Products
 pub mod Derivations
 pub mod SoundRows

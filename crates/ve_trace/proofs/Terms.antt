@@ -3,9 +3,9 @@ use Rattle.std.proofs.Common.{◌≡◌, ℕ, ◌+◌, ◌<◌, ◌≤◌, nat_e
 use Rattle.std.proofs.lemmas.List.{take_more, take_all, append-nil, get_or_past}
 use Rattle.ve_theory.specs.Combinations.{Combination, scaled, extended, IsReduced, IsReducedOf}
 use Rattle.ve_theory.specs.Words.{Word, start, letters}
-use Rattle.ve_theory.proofs.Sums.{extended-append}
+use Rattle.ve_theory.proofs.Sums.{extended-append, SameWeights-append, SameWeights-refl}
 use Rattle.ve_vec.specs.Tracing.{PartialTable, vector_times_letters, vector_of_word}
-use Rattle.ve_trace.proofs.Adding.{added, itself}
+use Rattle.ve_trace.proofs.Adding.{added, itself, onto, weights_of}
 
 -- any kind of words
 module _ {K : Type 0} (p : ℕ) (f : K → Combination ℕ) (r : Combination K) where
@@ -33,6 +33,15 @@ module _ {K : Type 0} (p : ℕ) (f : K → Combination ℕ) (r : Combination K) 
       let next : extended f (take (at + 1) r) ≡ extended f (take at r) ++ scaled c (f k) =
       next_term at d within ∙ ap₂ (λ n j. extended f (take at r) ++ scaled n (f j)) (sym coef) (sym key) in
       subst P (sym next) (added c sum vector result)
+
+  -- the product is added at once
+  pub one_more_product : (at c : ℕ) (d : K × ℕ) (k : K) (s u : Combination ℕ) → at < length r → k ≡ (slice_index_or r at d).0 → c ≡ (slice_index_or r at d).1
+      → IsSumTo at s → IsReducedOf ◌<◌ nat_eq p u (s ++ scaled c (f k)) → IsSumTo (at + 1) u
+  one_more_product at c d k s u within key coef sum result =
+      let P : Combination ℕ → Type 0 = λ w. IsReducedOf ◌<◌ nat_eq p u w in
+      let next : extended f (take (at + 1) r) ≡ extended f (take at r) ++ scaled c (f k) =
+      next_term at d within ∙ ap₂ (λ n j. extended f (take at r) ++ scaled n (f j)) (sym coef) (sym key) in
+      subst P (sym next) (onto result (SameWeights-append (weights_of sum) (SameWeights-refl p (scaled c (f k)))))
 
   -- a term that counts nothing
   pub passed_term : (at : ℕ) (d : K × ℕ) (s : Combination ℕ) → at < length r → f (slice_index_or r at d).0 ≡ [] → IsSumTo at s → IsSumTo (at + 1) s

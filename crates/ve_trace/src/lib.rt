@@ -3,9 +3,11 @@
 
 pub mod laws;
 mod multiples;
+mod steps;
 mod sums;
 mod times;
 mod trace;
+mod walk;
 
 pub use trace::{trace_relator, trace_sub, trace_word};
 

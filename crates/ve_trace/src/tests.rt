@@ -221,6 +221,37 @@ fn stairs(alloc: Global, field: &Field, count: u32) -> Result<Grid, Memory>
     Ok(Grid { rows, zero })
 }
 
+/// `x^4 + x^3 + x^2 + x + 1` is a relator of more words than are traced each by itself.
+#[test]
+fn long_relator_traced(rt: HostRuntime) -> Result<(), Fail> {
+    let alloc = rt.alloc();
+    let Some(field) = Field::new(3) else {
+        panic!(rt; "3 is a prime");
+    };
+    let grid = stairs(alloc, &field, 10)?;
+    let terms: Terms = &[
+        (1, &[0, 0, 0, 0]),
+        (1, &[0, 0, 0]),
+        (1, &[0, 0]),
+        (1, &[0]),
+        (1, &[]),
+    ];
+    let relator = element(alloc, &field, terms)?;
+    let traced = traced_relator(alloc, &field, &grid, 0, &relator)?;
+    let sum = [
+        (8, 1),
+        (7, 1),
+        (6, 1),
+        (5, 1),
+        (4, 2),
+        (2, 2),
+        (1, 1),
+        (0, 1),
+    ];
+    assert!(rt; has_terms(&traced, &sum));
+    Ok(())
+}
+
 /// Of forty rows that overlap, halves are added up first.
 #[test]
 fn wide_vector_traced(rt: HostRuntime) -> Result<(), Fail> {

@@ -35,7 +35,7 @@ pub(crate) fn times_letters<R: Rows>(
 }
 
 /// The vector times a letter.
-fn times_letter<R: Rows>(
+pub(crate) fn times_letter<R: Rows>(
     alloc: Global,
     rows: &R,
     field: &Field,

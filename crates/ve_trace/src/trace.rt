@@ -7,13 +7,18 @@ ghost use Rattle.ve_table.specs.Tables.{ActionTable};
 ghost use Rattle.ve_trace.specs.Within.{IsTracedRelation, IsTracedRelator, IsTracedWord};
 
 use crate::multiples::add_moved;
+use crate::steps::add_product;
 use crate::times::times_letters;
+use crate::walk::walk_relator;
 use std::alloc::Global;
 use ve_field::Field;
 use ve_pres::{FreeAlg, FreeMod};
 use ve_theory::order::{reach_adds_up, words_are_ordered};
-use ve_vec::{Rows, Sparse};
+use ve_vec::{Rows, Sparse, Term};
 use ve_word::Memory;
+
+/// Up to how many words of a relator are traced each by itself, whatever they share.
+const FEW: usize = 4;
 
 /// The vector times letters, from the first to the last.
 pub fn trace_word<R: Rows>(
@@ -50,13 +55,18 @@ pub fn trace_relator<R: Rows>(
 {
     reach_adds_up();
     words_are_ordered();
+    if relator.term_count() > FEW {
+        let sum = walk_relator(alloc, rows, field, id, relator)?;
+        return Ok(sum);
+    }
     // One is an element of each field.
-    let _prime = field.prime();
-    let unit = Sparse::unit(alloc, id);
+    field.has_prime();
+    let unit = Term { id, coef: 1 };
     let mut sum = Sparse::zero(alloc);
     for at in 0..relator.term_count() {
-        let traced = times_letters(alloc, rows, field, &unit, relator.word_at(at))?;
-        add_moved(&mut sum, field, relator.coef_at(at), traced)?;
+        let letters = relator.word_at(at);
+        let coef = relator.coef_at(at);
+        add_product(&mut sum, alloc, rows, field, coef, unit, letters)?;
     }
     Ok(sum)
 }

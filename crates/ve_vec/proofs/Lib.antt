@@ -1,6 +1,7 @@
 pub mod ReducedLists
 pub mod Coefficients
 pub mod Merging
+pub mod Inserting
 pub mod Searching
 pub mod TermSteps
 pub mod Joining

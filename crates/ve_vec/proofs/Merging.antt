@@ -120,3 +120,10 @@ unchanged p by v o reduced (inl zero_factor) = record {
   alike = λ k. ap (λ n. n % p) (sym (coefficient-append v (scaled by o) k ∙ omega (arith, coefficient-scaled by o k, ap (λ n. n * coefficient nat_eq o k) zero_factor)));
 }
 unchanged p by v o reduced (inr none) = rw none (record { reduced = reduced; alike = λ k. ap (λ w. coefficient nat_eq w k % p) (sym (append-nil v)) })
+
+-- the right is put behind as it is
+pub once_more : (p : ℕ) (m r : Combination ℕ) → IsReduced ◌<◌ p (m ++ r) → IsReducedOf ◌<◌ nat_eq p (m ++ r) (m ++ scaled 1 r)
+once_more p m r reduced = record {
+  reduced = reduced;
+  alike = λ k. ap (λ n. n % p) (coefficient-append m r k ∙ omega (arith, coefficient-append m (scaled 1 r) k, coefficient-scaled 1 r k));
+}

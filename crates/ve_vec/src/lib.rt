@@ -1,6 +1,7 @@
 //! Sparse vectors over a prime field.
 #![tactic(auto)]
 
+mod insert;
 mod merge;
 mod number;
 mod rows;

@@ -7,6 +7,9 @@ use smallvec::SmallVec;
 use ve_field::Field;
 use ve_word::Memory;
 
+/// How many terms take no memory.
+const FEW: usize = 4;
+
 /// Whether each id of `others` is below each of `terms`.
 pub(crate) fn comes_before(terms: &[Term], others: &[Term]) -> bool
     ensures { IsTrue result → (p : ℕ) → IsReduced ◌<◌ p (pairs terms.now) → IsReduced ◌<◌ p (pairs others.now)
@@ -44,12 +47,26 @@ pub(crate) fn append_scaled(
     ensures ok { OnOk result (IsReducedOf ◌<◌ nat_eq field.now (pairs sum.new.items) (pairs sum.old.items ++ scaled by (pairs right.now))) }
     ensures err { OnErr result (sum.new ≡ sum.old) }
 {
+    if by == 1 {
+        sum.extend_from_slice(right)?;
+        return Ok(());
+    }
     sum.reserve(right.len())?;
     for term in right {
         sum.push_reserved(Term {
             id: term.id,
             coef: field.mul(by, term.coef),
         });
+    }
+    Ok(())
+}
+
+/// Takes room for a sum of so many terms and so many more, unless both are few: then ids that meet may keep it from taking memory.
+fn make_room(sum: &mut SmallVec<Term, 4>, left: usize, right: usize) -> Result<(), Memory>
+    ensures { sum.new.items ≡ sum.old.items }
+{
+    if left > FEW || right > FEW {
+        sum.reserve(left.saturating_add(right))?;
     }
     Ok(())
 }
@@ -69,6 +86,7 @@ pub(crate) fn append_sum(
     ensures ok { OnOk result (IsReducedOf ◌<◌ nat_eq field.now (pairs sum.new.items)
         (pairs sum.old.items ++ (pairs left.now ++ scaled by (pairs right.now)))) }
 {
+    make_room(sum, left.len(), right.len())?;
     loop {
         let Some((a, left_rest)) = left.split_first() else {
             return append_scaled(sum, field, by, right);

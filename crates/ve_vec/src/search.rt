@@ -6,7 +6,7 @@ ghost use Rattle.ve_vec.specs.Vectors.{IsVector, without};
 use crate::Term;
 
 /// How many of the terms have an id above `id`. They stand by falling id.
-fn count_above(terms: &[Term], id: u32) -> usize
+pub(crate) fn count_above(terms: &[Term], id: u32) -> usize
     requires { IsVector (pairs terms.now) }
     ensures bound { result ≤ length terms.now }
     ensures above { AllBefore (λ j k. k < j) id (pairs (take result terms.now)) }

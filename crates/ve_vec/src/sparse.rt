@@ -1,8 +1,10 @@
 ghost use Rattle.std.specs.Prelude.{◌≡◌, ℕ, ◌<◌, ◌≤◌, ◌↔◌, Bool, [], ◌∷◌, ◌++◌, IsTrue, IfSome, IsNone, IfOk, OnOk, OnErr, All, drop, length, map, nat_eq, slice_get};
 ghost use Rattle.ve_theory.specs.Combinations.{unit, scaled, coefficient, AllBefore, IsReduced, IsReducedOf};
+ghost use Rattle.ve_vec.specs.Terms.{pairs};
 ghost use Rattle.ve_vec.specs.Vectors.{AllIds, IsVector, numbered, without};
 
 use crate::Term;
+use crate::insert::insert_term;
 use crate::merge::{append_scaled, append_sum, comes_before, scale_terms};
 use crate::number::number_terms;
 use crate::search::{split_around, split_at_id};
@@ -66,6 +68,13 @@ impl Sparse {
         ensures { result ≡ length self.now }
     {
         self.terms.len()
+    }
+
+    /// The terms, by falling id.
+    pub fn terms(&self) -> &[Term]
+        ensures { pairs result.now ≡ self.now }
+    {
+        self.terms.as_slice()
     }
 
     /// The term at `at`, counted from the greatest id.
@@ -160,9 +169,29 @@ impl Sparse {
             append_scaled(&mut self.terms, field, by, others)?;
             return Ok(());
         }
+        // A term finds its place without a new list.
+        if let [term] = others {
+            insert_term(&mut self.terms, field, term.id, field.mul(by, term.coef))?;
+            return Ok(());
+        }
         let mut sum = SmallVec::new(*self.terms.allocator());
         append_sum(&mut sum, field, by, self.terms.as_slice(), others)?;
         self.terms = sum;
+        Ok(())
+    }
+
+    /// Adds `by` times a term. Up to four terms take no memory.
+    pub fn add_scaled_term(&mut self, field: &Field, by: u8, term: Term) -> Result<(), Memory>
+        requires fits { IsReduced ◌<◌ field.now self.old }
+        requires term { term.coef < field.now }
+        requires residue { by < field.now }
+        ensures ok { OnOk result (IsReducedOf ◌<◌ nat_eq field.now self.new (self.old ++ scaled by ((term.id, term.coef) ∷ []))) }
+        ensures err { OnErr result (self.new ≡ self.old) }
+    {
+        let coef = field.mul(by, term.coef);
+        if coef != 0 {
+            insert_term(&mut self.terms, field, term.id, coef)?;
+        }
         Ok(())
     }
 

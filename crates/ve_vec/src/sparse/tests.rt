@@ -70,6 +70,19 @@ fn adds_a_multiple(rt: HostRuntime) -> Result<(), Fail> {
 }
 
 #[test]
+fn adds_terms_in_place(rt: HostRuntime) -> Result<(), Fail> {
+    let alloc = rt.alloc();
+    let Some(field) = Field::new(5) else {
+        panic!(rt; "5 is a prime");
+    };
+    let mut v = pair(alloc, &field, term(7, 2), term(3, 1))?;
+    v.add_scaled_term(&field, 3, term(7, 1))?;
+    v.add_scaled_term(&field, 2, term(4, 3))?;
+    assert_eq!(rt; v.terms(), [term(4, 1), term(3, 1)].as_slice());
+    Ok(())
+}
+
+#[test]
 fn substitutes_and_scales(rt: HostRuntime) -> Result<(), Fail> {
     let alloc = rt.alloc();
     let Some(field) = Field::new(5) else {

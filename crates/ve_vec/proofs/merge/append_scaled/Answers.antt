@@ -1,6 +1,7 @@
 use Rattle.std.proofs.Common.{[], ap, sym, ◌∙◌, append-nil, arith, length}
-use Rattle.std.proofs.lemmas.List.{length_push, drop_all}
-use Rattle.ve_vec.proofs.Merging.{start_right}
+use Rattle.std.proofs.lemmas.List.{length_push, drop_all, map-append}
+use Rattle.ve_vec.specs.Terms.{pairs}
+use Rattle.ve_vec.proofs.Merging.{start_right, once_more}
 use Rattle.ve_vec.proofs.TermSteps.{first_scaled, push_scaled, finish}
 use Rattle.ve_vec.proofs.merge.append_scaled.Goals as goal
 
@@ -21,3 +22,8 @@ loop-term-preserved c =
 pub returns-clause-ok : goal.returns-clause-ok
 returns-clause-ok c =
     finish _ _ _ _ [] _ _ (drop_all _ _ c.loop-term-test.false) (sym (append-nil _)) c.loop-term.invariant.1
+
+pub returns-then-by-eq1-clause-ok : goal.returns-then-by-eq1-clause-ok
+returns-then-by-eq1-clause-ok c =
+    rw (c.if-by-eq1.true, c.in_ok-extend_from_slice.ensures.ok, map-append)
+    (once_more c.args.field.now (pairs c.args.sum.now.items) (pairs c.args.right.now) c.requires.terms)

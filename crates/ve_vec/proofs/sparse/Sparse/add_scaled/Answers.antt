@@ -1,7 +1,8 @@
-use Rattle.std.proofs.Common.{inl, inr, sym, ap, ◌∙◌}
+use Rattle.std.proofs.Common.{inl, inr, sym, ap, ◌∙◌, arith}
 use Rattle.std.proofs.lemmas.List.{nil_from_length}
 use Rattle.std.proofs.lemmas.Bool.{eqb-true}
 use Rattle.ve_vec.specs.Terms.{pairs}
+use Rattle.ve_vec.proofs.Inserting.{alone_of, term_of, as_product}
 use Rattle.ve_vec.proofs.Merging.{unchanged}
 use Rattle.ve_vec.proofs.Ids.{ids_of_sum}
 use Rattle.ve_vec.proofs.sparse.Sparse.add_scaled.Goals as goal
@@ -25,3 +26,23 @@ pub returns-clause-ids : goal.returns-clause-ids
 returns-clause-ids c = λ among.
     ids_of_sum c.args.field.now c.args.by among c.args.self.now c.args.other.now _
     (rw (c.new-sum.ensures.items, c.as_slice-2.ensures, c.as_slice-others.ensures, c.other.view_is, c.self.view_is) at c.in_ok-append_sum.ensures.ok)
+
+pub mul-requires-clause-second : goal.mul-requires-clause-second
+mul-requires-clause-second c =
+    (term_of _ _ _ _ (alone_of c.as_slice-others.result.now (record { id = 0; coef = 0 }) c.other.view_is c.as_slice-others.ensures c.in-len1.len_at_least c.in-len1.len_below) c.requires.other_fits).residue
+
+pub insert_term-requires-clause-nonzero : goal.insert_term-requires-clause-nonzero
+insert_term-requires-clause-nonzero c =
+    let term = term_of _ _ _ _ (alone_of c.as_slice-others.result.now (record { id = 0; coef = 0 }) c.other.view_is c.as_slice-others.ensures c.in-len1.len_at_least c.in-len1.len_below) c.requires.other_fits in
+    c.mul.ensures.nonzero (omega (arith, c.if-by-eq0.false)) term.positive
+
+pub returns-in-len1-clause-ok : goal.returns-in-len1-clause-ok
+returns-in-len1-clause-ok c =
+    rw (alone_of c.as_slice-others.result.now (record { id = 0; coef = 0 }) c.other.view_is c.as_slice-others.ensures c.in-len1.len_at_least c.in-len1.len_below)
+    (as_product _ _ _ _ _ _ _ c.mul.ensures.product (rw c.self.view_is at c.in_ok-insert_term.ensures.ok))
+
+pub returns-in-len1-clause-ids : goal.returns-in-len1-clause-ids
+returns-in-len1-clause-ids c = λ among.
+    ids_of_sum c.args.field.now c.args.by among c.args.self.now c.args.other.now _
+    (rw (alone_of c.as_slice-others.result.now (record { id = 0; coef = 0 }) c.other.view_is c.as_slice-others.ensures c.in-len1.len_at_least c.in-len1.len_below)
+    (as_product c.args.field.now c.args.by _ _ _ c.args.self.now _ c.mul.ensures.product (rw c.self.view_is at c.in_ok-insert_term.ensures.ok)))
