@@ -76,7 +76,7 @@ differences_apart p u v w positive = record {
 
 -- a lower id is due too
 pub due_below : (T : ActionTable) → IsSound T → IsTotalOrder (presented T) → (a b x : ℕ) → a < b → IsDue T b x → IsDue T a x
-due_below T sound order a b x less due = (omega (arith, less, due.0), due.1, omega (arith, lower_reach T sound order a b less due.0, due.2))
+due_below T sound order a b x less due = (omega (arith, less, due.0), due.1, omega (arith, lower_reach T sound order a b (omega (arith, less)) due.0, due.2))
 
 -- the forward of a dead id, and the rows of its ids and of itself
 module _ (T : ActionTable) (sound : IsSound T) (order : IsTotalOrder (presented T)) (adds : ReachAddsUp) (dead x : ℕ) (due : IsDue T dead x)

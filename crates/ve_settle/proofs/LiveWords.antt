@@ -1,7 +1,6 @@
 -- The words of the live ids, and what a finished table says of them.
-use Rattle.std.proofs.Common.{◌≡◌, ℕ, zero, suc, ◌+◌, ◌<◌, ◌≤◌, ◌⊎◌, inl, inr, Some, None, List, [], ◌∷◌, length, get_or, All, refl, ap, subst, ◌∙◌, add-one, arith}
+use Rattle.std.proofs.Common.{◌≡◌, ℕ, zero, suc, ◌+◌, ◌<◌, ◌≤◌, Some, None, List, [], ◌∷◌, length, get_or, All, refl, ap, subst, ◌∙◌, add-one, arith}
 use Rattle.std.specs.Prelude.{Option, ◌↔◌, slice_get, sum_by}
-use Rattle.std.proofs.lemmas.Bool.{cases_lt}
 use Rattle.std.proofs.lemmas.List.{get_or_default}
 use Rattle.std.proofs.lemmas.List.Elements.{All-head, All-tail}
 use Rattle.std.proofs.lemmas.Option.{slice_get_within}
@@ -10,7 +9,7 @@ use Rattle.ve_theory.specs.Presentations.{reach}
 use Rattle.ve_theory.specs.Levels.{Lists, IsNormal, HasSize, steps_to}
 use Rattle.ve_theory.specs.Answers.{Row}
 use Rattle.ve_theory.specs.Laws.{FinishedLevelsSettle, IsTotalOrder}
-use Rattle.ve_table.specs.Tables.{ActionTable, presented, word_at, IsLive, of_live, live_words}
+use Rattle.ve_table.specs.Tables.{ActionTable, presented, word_at, IsId, IsLive, of_live, live_words}
 use Rattle.ve_machine.specs.Finished.{IsFinishedTable, IsPacked}
 use Rattle.ve_settle.specs.NormalWords.{SettlesTable}
 use Rattle.ve_settle.proofs.Order.{lower_reach}
@@ -78,11 +77,8 @@ module _ (T : ActionTable) (finished : IsFinishedTable T) (settled : SettlesTabl
       → (w : Word) → IsNormal (presented T) T.level w → reach (presented T) w ≤ reach (presented T) (word_at T last)
   normal_reach order last live greatest w normal =
       let found = normal_is_live w normal in
-      subst (λ v. reach (presented T) v ≤ reach (presented T) (word_at T last)) found.2 (cases found.0 (greatest found.0 found.1) (cases_lt found.0 last))
-    where
-      cases : (b : ℕ) → b ≤ last → (b < last) ⊎ (last ≤ b) → reach (presented T) (word_at T b) ≤ reach (presented T) (word_at T last)
-      cases b le (inl less) = lower_reach T finished.sound order b last less (subst (λ n. last < n) finished.sound.one_forward_each (slice_get_within T.forwards last None live))
-      cases b le (inr more) = let same : b ≡ last = omega (arith, le, more) in rw same (omega arith)
+      let last_id : IsId T last = subst (λ n. last < n) finished.sound.one_forward_each (slice_get_within T.forwards last None live) in
+      subst (λ v. reach (presented T) v ≤ reach (presented T) (word_at T last)) found.2 (lower_reach T finished.sound order found.0 last (greatest found.0 found.1) last_id)
 
   -- so the last one tells whether all of them are so much below the level
   pub last_decides : IsTotalOrder (presented T) → (last n : ℕ) → IsLive T last → ((b : ℕ) → IsLive T b → b ≤ last)

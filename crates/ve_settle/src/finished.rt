@@ -94,7 +94,7 @@ impl Finished {
         }
     }
 
-    /// Every finished table is finished.
+    /// What holds of every finished table, for proofs.
     pub fn is_finished(&self)
         ensures { IsFinishedTable self.now }
     {

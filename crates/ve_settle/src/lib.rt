@@ -5,6 +5,7 @@ mod deletion;
 mod falling;
 mod finished;
 mod heap;
+mod ids;
 mod image;
 mod live;
 mod resolution;
@@ -15,6 +16,7 @@ mod terms;
 
 pub use deletion::delete;
 pub use finished::{Finished, finish, finished_tables_settle};
+pub use ids::words_rise_with_ids;
 pub use image::image_of;
 pub use resolution::{
     forwardings_resolve_to_zero, resolutions_are_unique, resolutions_keep_words, resolve,
