@@ -1,15 +1,15 @@
 -- Jobs of relations, until all are done.
-use Rattle.std.proofs.Common.{◌≡◌, ℕ, ◌+◌, ◌<◌, ◌≤◌, ◌⊎◌, inl, inr, Some, None, All, [], List, length, get_or, sym, ap, subst, ◌∙◌, arith, below_more}
+use Rattle.std.proofs.Common.{◌≡◌, ℕ, ◌+◌, ◌<◌, ◌≤◌, inl, inr, Some, None, All, [], length, get_or, sym, ap, subst, ◌∙◌, arith, below_more}
 use Rattle.std.specs.Prelude.{slice_index_or}
 use Rattle.std.proofs.lemmas.Option.{get_or_from_slice_get, slice_get_within}
 use Rattle.ve_theory.specs.Words.{generator}
-use Rattle.ve_theory.specs.Presentations.{due, element_reach, relator, relators, submodule_relation}
+use Rattle.ve_theory.specs.Presentations.{due, element_reach, relator, submodule_relation}
 use Rattle.ve_theory.specs.Answers.{Row}
 use Rattle.ve_table.specs.Tables.{ActionTable, presented, word_at}
 use Rattle.ve_table.specs.Sound.{IsSound}
 use Rattle.ve_machine.specs.Forwards.{Forwards}
-use Rattle.ve_machine.specs.Finished.{IsFinishedTable, IsOpening, IsPacked}
-use Rattle.ve_machine.specs.Jobs.{HasForward, IsLiveIn, IsSettled, image_value, relator_value, submodule_value}
+use Rattle.ve_machine.specs.Finished.{IsFinishedTable, IsOpening}
+use Rattle.ve_machine.specs.Jobs.{HasForward, IsSettled, image_value, relator_value, submodule_value}
 use Rattle.ve_machine.specs.Jobs.IsKnownBelow.{by_forwards}
 use Rattle.ve_machine.specs.Laws.{NothingLeftIsFinished, OpeningsAreUnderWay}
 use Rattle.ve_plain.specs.Working.{Continues, HaveImagesBut, IsAtWork, KnowsRelator, KnowsRelators, KnowsSubmodule}

@@ -1,5 +1,5 @@
 -- What is traced is known, once it was imposed; and what was known stays so.
-use Rattle.std.proofs.Common.{◌≡◌, ℕ, ◌+◌, ◌<◌, ◌≤◌, ◌⊎◌, inl, inr, Some, None, [], ◌∷◌, List, length, nat_eq, refl, sym, ap, subst, ◌∙◌, arith}
+use Rattle.std.proofs.Common.{◌≡◌, ℕ, ◌+◌, ◌<◌, ◌≤◌, ◌⊎◌, inl, inr, Some, None, List, length, nat_eq, sym, ap, subst, ◌∙◌, arith}
 use Rattle.std.specs.Prelude.{IsSome, slice_index_or, unwrap_or}
 use Rattle.std.proofs.lemmas.Option.{get_or_from_slice_get, slice_get_within}
 use Rattle.ve_theory.specs.Combinations.{unit, difference, Alike}
@@ -8,7 +8,7 @@ use Rattle.ve_theory.specs.Presentations.{letter_count, step, reach, relators, r
 use Rattle.ve_theory.specs.Answers.{Row}
 use Rattle.ve_vec.specs.Tracing.{PartialTable, row_or_zero, vector_times, vector_times_element, vector_of}
 use Rattle.ve_pres.specs.Drafts.{Draft}
-use Rattle.ve_table.specs.Tables.{ActionTable, presented, word_at, row_at, IsDead, IsDue}
+use Rattle.ve_table.specs.Tables.{ActionTable, presented, word_at, row_at, IsDead}
 use Rattle.ve_table.specs.Sound.{IsSound}
 use Rattle.ve_machine.specs.Forwards.{Forwards, IsForwarding, image_difference, stand_in}
 use Rattle.ve_machine.specs.Known.{Known}
@@ -55,9 +55,6 @@ live_before A B sound continues b live = cases (live_or_dead A.forwards b (omega
 
 -- what was traced along the rows from which a vector was imposed
 module _ (traces : TracingIsKnown) (O : ActionTable) (old new : Work) (v : Row) (at_work : IsAtWork O old.table) (imposes : Imposes old v new) where
-
-
-
   traced : TracesWhatIsKnown O (with_forwards old.table new.table.forwards)
   traced = traces O (with_forwards old.table new.table.forwards) at_work.opening at_work.sound (imposes.under_way O at_work.under_way)
 
@@ -67,9 +64,9 @@ module _ (traces : TracingIsKnown) (O : ActionTable) (old new : Work) (v : Row) 
       → Known O new.table.forwards (relator_value O b number)
   relator_known b number known within is_due alike =
       let Q : Draft → ℕ → List Word → Type 0 = λ d k ws. (b < length ws) × (number < length (relators d.presentation))
-          × (due d.presentation (slice_index_or ws b (generator 0)) (relator d.presentation number) ≤ k)
-          × Alike nat_eq d.presentation.prime v (vector_times_element (row_at old.table) (unit b) (relator d.presentation number))
-          × IsForwarding d.presentation.prime new.table.forwards v in
+      × (due d.presentation (slice_index_or ws b (generator 0)) (relator d.presentation number) ≤ k)
+      × Alike nat_eq d.presentation.prime v (vector_times_element (row_at old.table) (unit b) (relator d.presentation number))
+      × IsForwarding d.presentation.prime new.table.forwards v in
       let there : Q O.draft O.level O.words = on_opening Q O old.table at_work (known, within, is_due, alike, imposes.forwarding) in
       traced.relators b number v there.0 there.1 there.2 there.3 there.4
 
@@ -79,9 +76,9 @@ module _ (traces : TracingIsKnown) (O : ActionTable) (old new : Work) (v : Row) 
       → Known O new.table.forwards (submodule_value O number)
   submodule_known number within is_due alike =
       let Q : Draft → ℕ → List Word → Type 0 = λ d k ws. (number < length d.presentation.submodule)
-          × (element_reach d.presentation (submodule_relation d.presentation number) ≤ k)
-          × Alike nat_eq d.presentation.prime v (vector_of (row_at old.table) old.table.images (submodule_relation d.presentation number))
-          × IsForwarding d.presentation.prime new.table.forwards v in
+      × (element_reach d.presentation (submodule_relation d.presentation number) ≤ k)
+      × Alike nat_eq d.presentation.prime v (vector_of (row_at old.table) old.table.images (submodule_relation d.presentation number))
+      × IsForwarding d.presentation.prime new.table.forwards v in
       let there : Q O.draft O.level O.words = on_opening Q O old.table at_work (within, is_due, alike, imposes.forwarding) in
       traced.submodule number v there.0 there.1 there.2 there.3
 
@@ -91,9 +88,9 @@ module _ (traces : TracingIsKnown) (O : ActionTable) (old new : Work) (v : Row) 
   image_known b x sound dead row alike =
       let still : HasForward new.table.forwards b dead.0 = imposes.lasts.continues.dead b dead.0 dead.1 in
       let same : image_difference (presented old.table).prime (row_at old.table) old.table.forwards b x ≡ image_difference (presented old.table).prime (row_at old.table) new.table.forwards b x =
-          image_difference-kept (presented old.table).prime (row_at old.table) old.table.forwards new.table.forwards b x dead.0 dead.1 still in
+      image_difference-kept (presented old.table).prime (row_at old.table) old.table.forwards new.table.forwards b x dead.0 dead.1 still in
       let Q : Draft → ℕ → List Word → Type 0 = λ d k ws. ((b < length ws) × (x < letter_count d.presentation) × (reach d.presentation (slice_index_or ws b (generator 0)) + step d.presentation x ≤ k))
-          × Alike nat_eq d.presentation.prime v (image_difference d.presentation.prime (row_at old.table) new.table.forwards b x)
-          × IsForwarding d.presentation.prime new.table.forwards v in
+      × Alike nat_eq d.presentation.prime v (image_difference d.presentation.prime (row_at old.table) new.table.forwards b x)
+      × IsForwarding d.presentation.prime new.table.forwards v in
       let there : Q O.draft O.level O.words = on_opening Q O old.table at_work ((sound.due b x).0 row, subst (λ u. Alike nat_eq (presented old.table).prime v u) same alike, imposes.forwarding) in
       traced.images b x dead.0 v still there.0 there.1 there.2

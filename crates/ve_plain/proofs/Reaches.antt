@@ -1,10 +1,10 @@
 -- Reaches rise from id to id, and no relator is due below some id.
-use Rattle.std.proofs.Common.{◌≡◌, ℕ, ◌+◌, ◌*◌, ◌/◌, ◌-◌, ◌<◌, ◌≤◌, ◌⊎◌, inl, inr, length, arith, sym, subst}
+use Rattle.std.proofs.Common.{◌≡◌, ℕ, ◌+◌, ◌/◌, ◌-◌, ◌<◌, ◌≤◌, ◌⊎◌, inl, inr, length, arith, sym, subst}
 use Rattle.std.proofs.Math.Nat.{div-lt_self}
 use Rattle.std.proofs.lemmas.Bool.{cases_lt}
 use Rattle.ve_theory.specs.Words.{generator}
-use Rattle.ve_theory.specs.Presentations.{due, reach, relator, relator_reach, relator_bound}
-use Rattle.ve_theory.specs.Laws.{HasBounds, IsTotalOrder}
+use Rattle.ve_theory.specs.Presentations.{reach}
+use Rattle.ve_theory.specs.Laws.{IsTotalOrder}
 use Rattle.ve_table.specs.Tables.{ActionTable, presented, word_at}
 use Rattle.ve_table.specs.Sound.{IsSound}
 

@@ -1,5 +1,5 @@
 -- Image jobs, until no id waits.
-use Rattle.std.proofs.Common.{◌≡◌, ℕ, ◌+◌, ◌<◌, ◌≤◌, ◌⊎◌, inl, inr, ◌++◌, All, [], ◌∷◌, List, length, Some, get_or, refl, sym, subst, below_more}
+use Rattle.std.proofs.Common.{◌≡◌, ℕ, ◌+◌, ◌<◌, ◌≤◌, inl, inr, ◌++◌, All, [], ◌∷◌, length, Some, get_or, sym, subst, below_more}
 use Rattle.std.specs.Prelude.{Contains, slice_index_or}
 use Rattle.std.proofs.lemmas.List.Elements.{All-nil, All-pop, All-contains, Contains-push, Contains-push_cases}
 use Rattle.ve_theory.specs.Words.{generator}
@@ -23,8 +23,9 @@ pub HaveImages-lasts : (O : ActionTable) (old new : Work) → IsAtWork O old.tab
     → HaveImagesBut O new.table.forwards new.waiting.items
 HaveImages-lasts O old new at_work lasts have = λ b f dead.
     elim (lasts.died b f dead) [
-        inl before ↦ (elim (have b f before) [ inl waits ↦ inl (lasts.waiting b waits) | inr done ↦ inr (HasImages-stays O old.table new.table at_work lasts.continues b f before done) ])
-      | inr waits ↦ inl waits ]
+      | inl before ↦ (elim (have b f before) [ inl waits ↦ inl (lasts.waiting b waits) | inr done ↦ inr (HasImages-stays O old.table new.table at_work lasts.continues b f before done) ])
+      | inr waits ↦ inl waits
+    ]
 
 -- what holds on the way, until no id waits
 pub record IsSettling (old now : Work) : Type 0 where
@@ -58,12 +59,15 @@ module _ (old now taken after : Work) (id : ℕ) (settling : IsSettling old now)
         let at_work_then : IsAtWork O now.table = later O old.table now.table at_work settling.continues in
         let at_work_taken : IsAtWork O taken.table = subst (IsAtWork O) (sym table_is) at_work_then in
         elim (lasts.died b f dead) [
-            inl before ↦ (elim (settling.images O at_work have b f (subst (λ T. HasForward T.forwards b f) table_is before)) [
-                inl waits ↦ (elim (Contains-push_cases taken.waiting.items id b (subst (λ l. Contains l b) items waits)) [
-                    inl still ↦ inl (lasts.waiting b still)
-                  | inr same ↦ inr (subst (HasImages O after.table.forwards) same (done O at_work_taken)) ])
-              | inr images ↦ inr (HasImages-stays O taken.table after.table at_work_taken lasts.continues b f before (subst (λ T. HasImages O T.forwards b) (sym table_is) images)) ])
-          | inr waits ↦ inl waits ];
+          | inl before ↦ (elim (settling.images O at_work have b f (subst (λ T. HasForward T.forwards b f) table_is before)) [
+            | inl waits ↦ (elim (Contains-push_cases taken.waiting.items id b (subst (λ l. Contains l b) items waits)) [
+              | inl still ↦ inl (lasts.waiting b still)
+              | inr same ↦ inr (subst (HasImages O after.table.forwards) same (done O at_work_taken))
+            ])
+            | inr images ↦ inr (HasImages-stays O taken.table after.table at_work_taken lasts.continues b f before (subst (λ T. HasImages O T.forwards b) (sym table_is) images))
+          ])
+          | inr waits ↦ inl waits
+        ];
   }
     where
       whole : Continues old.table after.table

@@ -1,12 +1,12 @@
 -- The work of a level goes on.
-use Rattle.std.proofs.Common.{◌≡◌, ℕ, ◌+◌, ◌*◌, ◌<◌, ◌≤◌, ◌⊎◌, inl, inr, ◌++◌, Some, None, All, [], ◌∷◌, List, length, refl, sym, ap, subst, ◌∙◌, arith, length-append}
+use Rattle.std.proofs.Common.{◌≡◌, ℕ, ◌+◌, ◌≤◌, ◌⊎◌, inl, inr, ◌++◌, Some, None, All, [], ◌∷◌, length, refl, sym, ap, subst, ◌∙◌, arith, length-append}
 use Rattle.std.specs.Prelude.{Contains, count_by}
 use Rattle.std.specs.Option.{is_none}
 use Rattle.std.proofs.lemmas.List.Elements.{All-push, All-weaker, Contains-append_left, Contains-push}
 use Rattle.ve_theory.specs.Answers.{Row}
-use Rattle.ve_table.specs.Tables.{ActionTable, presented, IsDead, IsLive}
+use Rattle.ve_table.specs.Tables.{ActionTable, presented, IsDead}
 use Rattle.ve_table.specs.Changes.{with_forward}
-use Rattle.ve_machine.specs.Forwards.{Forwards, IsForwarding}
+use Rattle.ve_machine.specs.Forwards.{IsForwarding}
 use Rattle.ve_machine.specs.Jobs.{HasForward, IsUnderWay}
 use Rattle.ve_plain.specs.Working.{Continues, Vanishes, with_forwards}
 use Rattle.ve_plain.specs.Works.{Imposes, Lasts, OnlyDeadWait, left_to_do}
@@ -62,8 +62,9 @@ module _ (old new : Work) (v : Row) (middle : ActionTable) (id : ℕ) (vanishes 
   died_now b g dead =
       let there : HasForward (with_forward old.table id f).forwards b g = subst (λ F. HasForward F b g) (forwards ∙ middle_forwards) dead in
       elim (HasForward-before old.table.forwards id b f g there) [
-          inl same ↦ inr (subst (λ l. Contains l b) (sym waits) (subst (λ c. Contains (old.waiting.items ++ id ∷ []) c) same (Contains-push old.waiting.items id)))
-        | inr before ↦ inl before ]
+        | inl same ↦ inr (subst (λ l. Contains l b) (sym waits) (subst (λ c. Contains (old.waiting.items ++ id ∷ []) c) same (Contains-push old.waiting.items id)))
+        | inr before ↦ inl before
+      ]
 
   fewer : left_to_do new ≤ left_to_do old
   fewer =

@@ -1,5 +1,5 @@
 -- How the work of a level goes on.
-use Rattle.std.specs.Prelude.{◌≡◌, ℕ, ◌<◌, ◌⊎◌, List, Option, Some, None, Contains, length, IfSome, IsNone}
+use Rattle.std.specs.Prelude.{◌≡◌, ℕ, ◌<◌, ◌⊎◌, List, Option, Contains, length, IfSome, IsNone}
 use Rattle.ve_theory.specs.Elements.{Element}
 use Rattle.ve_theory.specs.Presentations.{due, element_reach, relator, relators, submodule_relation}
 use Rattle.ve_theory.specs.Answers.{Row}

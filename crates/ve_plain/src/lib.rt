@@ -10,3 +10,6 @@ mod tracing;
 mod work;
 
 pub use closing::close_level;
+
+#[cfg(test)]
+mod tests;

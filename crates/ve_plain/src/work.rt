@@ -58,11 +58,7 @@ impl Work {
 }
 
 /// Resolves a vector that vanishes and deletes it. The id that died, if one did.
-fn delete_resolved(
-    alloc: Global,
-    table: &mut Table,
-    vector: &Sparse,
-) -> Result<Option<u32>, Memory>
+fn delete_resolved(alloc: Global, table: &mut Table, vector: &Sparse) -> Result<Option<u32>, Memory>
     requires row { IsRow (presented table.old).prime (length table.old.words) vector.now }
     requires vanishes { DerivedWithin (presented table.old) table.old.level (element_of table.old vector.now) }
     ensures ok { IfOk result (λ died. Vanishes table.old vector.now died table.new) }

@@ -1,4 +1,4 @@
-use Rattle.ve_plain.proofs.Going.{Continues-refl, Continues-rewritten, parent_due, parent_within}
+use Rattle.ve_plain.proofs.Going.{Continues-rewritten, parent_due, parent_within}
 use Rattle.std.proofs.Common.{sym, subst}
 use Rattle.ve_table.specs.Sound.{IsSound}
 use Rattle.ve_plain.specs.Working.{Continues}

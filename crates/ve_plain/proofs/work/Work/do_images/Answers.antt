@@ -15,15 +15,16 @@ loop-letter-preserved c =
     let now = c.loop-letter.self in
     let so_far = c.loop-letter.invariant in
     elim c.if-has_row.branch [
-        then-has_row+in_ok-do_image w ↦ record {
-          lasts = subst (Lasts old) (sym w.self-is) (Lasts-trans old now w.do_image.new.self so_far.lasts w.in_ok-do_image.ensures.lasts);
-          done = subst (λ work. HasImagesBelow old work c.args.id (c.loop-letter.letter + 1)) (sym w.self-is)
-              (one_more_letter old now w.do_image.new.self c.args.id c.loop-letter.letter c.requires so_far.lasts w.in_ok-do_image.ensures.lasts so_far.done
-              (λ O at_work is_due. w.in_ok-do_image.ensures.done O at_work));
-        }
+      | then-has_row+in_ok-do_image w ↦ record {
+        lasts = subst (Lasts old) (sym w.self-is) (Lasts-trans old now w.do_image.new.self so_far.lasts w.in_ok-do_image.ensures.lasts);
+        done = subst (λ work. HasImagesBelow old work c.args.id (c.loop-letter.letter + 1)) (sym w.self-is)
+            (one_more_letter old now w.do_image.new.self c.args.id c.loop-letter.letter c.requires so_far.lasts w.in_ok-do_image.ensures.lasts so_far.done
+            (λ O at_work is_due. w.in_ok-do_image.ensures.done O at_work));
+      }
       | else-has_row w ↦ record {
-          lasts = subst (Lasts old) (sym w.self-is) so_far.lasts;
-          done = subst (λ work. HasImagesBelow old work c.args.id (c.loop-letter.letter + 1)) (sym w.self-is)
-              (one_more_letter old now now c.args.id c.loop-letter.letter c.requires so_far.lasts (Lasts-refl now (Continues-refl now.table so_far.lasts.continues.sound)) so_far.done
-              (λ O at_work is_due. absurd (let bad = w.if-has_row.ensures.due.1 (no_product O now.table c.args.id c.loop-letter.letter at_work is_due) in cc)));
-        } ]
+        lasts = subst (Lasts old) (sym w.self-is) so_far.lasts;
+        done = subst (λ work. HasImagesBelow old work c.args.id (c.loop-letter.letter + 1)) (sym w.self-is)
+            (one_more_letter old now now c.args.id c.loop-letter.letter c.requires so_far.lasts (Lasts-refl now (Continues-refl now.table so_far.lasts.continues.sound)) so_far.done
+            (λ O at_work is_due. absurd (let bad = w.if-has_row.ensures.due.1 (no_product O now.table c.args.id c.loop-letter.letter at_work is_due) in cc)));
+      }
+    ]

@@ -1,0 +1,10 @@
+use Rattle.ve_theory.specs.Combinations.{IsReduced}
+use Rattle.ve_theory.specs.Words.{ShortlexLetters}
+use Rattle.ve_pres.specs.Terms.{HasLettersBelow}
+use Rattle.ve_plain.proofs.tests.element_of.Given as goal
+
+abbrev pub invariant-loop-word : goal.invariant-loop-word
+invariant-loop-word l = IsReduced ShortlexLetters l.field l.sum × HasLettersBelow l.count l.sum
+
+abbrev pub invariant-loop-letter : goal.invariant-loop-letter
+invariant-loop-letter l = IsReduced ShortlexLetters l.field l.product × HasLettersBelow l.count l.product
