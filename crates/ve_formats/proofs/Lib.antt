@@ -35,3 +35,10 @@ mod Depth
 mod Standing
 mod LineOutcomes
 mod TextOutcomes
+mod SpacedPieces
+mod AnswerRows
+mod AnswerSteps
+mod AnswerOutcomes
+mod AnswerFilling
+mod AnswerTaking
+mod AnswerChoices

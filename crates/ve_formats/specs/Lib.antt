@@ -9,9 +9,14 @@ pub mod ModuleExpressions
 pub mod Once
 pub mod Values
 pub mod ModuleValues
+pub mod Pieces
 pub mod PresentationLines
 pub mod PresentationText
 pub mod CanonicalText
 pub mod Reading
 pub mod ModuleReading
 pub mod LineReading
+pub mod OutgrownText
+pub mod SummaryText
+pub mod VerdictText
+pub mod AnswerReading

@@ -53,3 +53,11 @@ cause_text causes.after_end = codes "text after end"
 
 abbrev pub refusal_message : ℕ → Cause → List ℕ
 refusal_message line cause = line_text (codes "venum: line " ++ decimal line ++ codes ": " ++ cause_text cause)
+
+-- the text of an answer is refused at a line
+abbrev pub answer_refusal_message : ℕ → List ℕ
+answer_refusal_message line = line_text (codes "venum: answer line " ++ decimal line ++ codes ": not an answer")
+
+-- there is no generated presentation with these numbers
+abbrev pub no_presentation_message : List ℕ
+no_presentation_message = line_text (codes "venum: no such presentation")

@@ -1,0 +1,5 @@
+pub mod LineByLine
+pub mod Entries
+pub mod Climbing
+pub mod AnswerParts
+pub mod Figures
