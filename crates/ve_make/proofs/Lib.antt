@@ -1,0 +1,4 @@
+pub mod Vanishing
+pub mod Rooms
+pub mod Swaps
+pub mod Building
