@@ -1,10 +1,4 @@
-pub mod PowerTexts
-pub mod Writings
+pub mod Endings
 pub mod Reading
+pub mod Texts
 pub mod Runs
-pub mod PowerForms
-pub mod PowerAnswers
-pub mod PowerChains
-pub mod PowerLevels
-pub mod PowerPresentations
-pub mod PowerWords

@@ -1,46 +1,99 @@
--- The commands: the words that name them, and the texts that they make of a presentation.
-use Rattle.std.specs.Prelude.{◌≡◌, ℕ, List, [], ◌∷◌, codes}
+-- The commands that run, and what each makes of its input.
+use Rattle.std.specs.Prelude.{◌≡◌, ℕ, ◌⊎◌, Bool, cond, List}
 use Rattle.ve_theory.specs.Presentations.{Presentation}
+use Rattle.ve_theory.specs.Levels.{IsFinishedAt, IsOutgrown}
 use Rattle.ve_theory.specs.Answers.{Answer, IsAnswer}
 use Rattle.ve_theory.specs.Laws.{DecidesModule}
-use Rattle.ve_formats.specs.PresentationText.{Spells}
 use Rattle.ve_formats.specs.CanonicalText.{canonical}
 use Rattle.ve_formats.specs.AnswerText.{answer_text}
-use Rattle.ve_main.specs.PowerRelation.{PowerRelation, presentation_of}
-use Rattle.ve_main.specs.declared.command.Command.{Command}
-use Rattle.ve_main.specs.declared.command.Command.TheVariants.{Alone, Show}
+use Rattle.ve_formats.specs.SummaryText.{summary_text}
+use Rattle.ve_formats.specs.OutgrownText.{outgrown_text}
+use Rattle.ve_make.specs.Symmetric.{IsMade, symmetric_presentation}
+use Rattle.ve_words.specs.Meaning.{Means}
+use Rattle.ve_words.specs.declared.command.Command.{Command}
+use Rattle.ve_words.specs.declared.command.Command.TheVariants.{Alone, Shared, Show, Check, Make}
 
-abbrev pub IsNamed : List ℕ → Command → Type 0
-IsNamed name Alone = name ≡ codes "alone"
-IsNamed name Show = name ≡ codes "show"
+-- ---- the words
 
--- the words of the command line are the program's name and the command's
-abbrev pub Means : List (List ℕ) → Command → Type 0
-Means words command = (program : List ℕ) × (name : List ℕ) × (words ≡ program ∷ name ∷ []) × IsNamed name command
+-- answers are not checked yet
+abbrev pub IsRun : Command → Type 0
+IsRun (Alone limit summary) = Unit {0}
+IsRun (Shared workers limit summary) = Unit {0}
+IsRun Show = Unit {0}
+IsRun Check = ⊥
+IsRun (Make points node prime) = Unit {0}
 
--- The command can work on the presentation. So far answers are worked out for one letter and one relation between two of its
--- powers alone.
-abbrev pub CanWork : Command → Presentation → Type 0
-CanWork Alone P = (R : PowerRelation) × (P ≡ presentation_of R)
-CanWork Show P = Unit {0}
+-- the words ask for this command
+pub record Asks (words : List (List ℕ)) (command : Command) : Type 0 where
+  pub means : Means words command
+  pub runs : IsRun command
 
--- The text is that of the presentation's answer, in which an element evaluates to zero exactly where the relations derive it.
-pub record IsAnswerText (P : Presentation) (text : List ℕ) : Type 0 where
+-- ---- kinds of commands
+
+-- the command reads a presentation
+abbrev pub IsReading : Command → Type 0
+IsReading (Alone limit summary) = Unit {0}
+IsReading (Shared workers limit summary) = Unit {0}
+IsReading Show = Unit {0}
+IsReading Check = ⊥
+IsReading (Make points node prime) = ⊥
+
+-- the command enumerates the presented module within this limit
+abbrev pub HasLimit : Command → ℕ → Type 0
+HasLimit (Alone limit summary) bound = bound ≡ limit
+HasLimit (Shared workers limit summary) bound = bound ≡ limit
+HasLimit Show bound = ⊥
+HasLimit Check bound = ⊥
+HasLimit (Make points node prime) bound = ⊥
+
+abbrev pub IsShowing : Command → Type 0
+IsShowing (Alone limit summary) = ⊥
+IsShowing (Shared workers limit summary) = ⊥
+IsShowing Show = Unit {0}
+IsShowing Check = ⊥
+IsShowing (Make points node prime) = ⊥
+
+-- the command makes a presentation from numbers for which there is one, and from others
+abbrev pub CanMake : Command → Type 0
+CanMake (Alone limit summary) = ⊥
+CanMake (Shared workers limit summary) = ⊥
+CanMake Show = ⊥
+CanMake Check = ⊥
+CanMake (Make points node prime) = IsMade points node prime
+
+abbrev pub CannotMake : Command → Type 0
+CannotMake (Alone limit summary) = ⊥
+CannotMake (Shared workers limit summary) = ⊥
+CannotMake Show = ⊥
+CannotMake Check = ⊥
+CannotMake (Make points node prime) = ¬ IsMade points node prime
+
+-- ---- the texts
+
+-- Some level is the closing level, it and all before it fit the limit, and the text is that of the presentation's answer, or its
+-- summary. In the answer an element evaluates to zero exactly where the relations derive it.
+pub record IsAnswerText (P : Presentation) (limit : ℕ) (summary : Bool) (text : List ℕ) : Type 0 where
   pub answer : Answer
+  pub finished : IsFinishedAt P limit answer.closed
   pub is_answer : IsAnswer P answer
   pub decides : DecidesModule P answer.action
-  pub is_text : text ≡ answer_text answer
+  pub is_text : text ≡ cond summary (summary_text answer) (answer_text answer)
 
-abbrev pub IsTextOf : Command → Presentation → List ℕ → Type 0
-IsTextOf Alone P text = IsAnswerText P text
-IsTextOf Show P text = text ≡ canonical P
+-- A level is outgrown by the limit, and the text tells it.
+pub record IsOverText (P : Presentation) (limit : ℕ) (text : List ℕ) : Type 0 where
+  pub level : ℕ
+  pub size : ℕ
+  pub outgrown : IsOutgrown P limit level size
+  pub is_text : text ≡ outgrown_text level size limit
 
--- the text that a command makes of a presentation that it can work on
-abbrev pub Makes : Command → Presentation → List ℕ → Type 0
-Makes command P text = CanWork command P × IsTextOf command P text
+-- how an enumeration ends: its status and its text
+abbrev pub Enumerates : Presentation → ℕ → Bool → ℕ → List ℕ → Type 0
+Enumerates P limit summary status text = ((status ≡ 0) × IsAnswerText P limit summary text) ⊎ ((status ≡ 1) × IsOverText P limit text)
 
--- The input calls for this text: it spells a presentation, of which the command makes the text.
-pub record Demands (command : Command) (input text : List ℕ) : Type 0 where
-  pub presentation : Presentation
-  pub spells : Spells input presentation
-  pub makes : Makes command presentation text
+-- the presentation is shown
+abbrev pub Shows : Presentation → ℕ → List ℕ → Type 0
+Shows P status text = (status ≡ 0) × (text ≡ canonical P)
+
+-- the presentation that these numbers have is shown
+abbrev pub ShowsMade : (points node prime : ℕ) → ℕ → List ℕ → Type 0
+ShowsMade points node prime status text = IsMade points node prime × Shows (symmetric_presentation points node prime) status text

@@ -1,19 +1,23 @@
 -- How a run ends: its status, and what it took from the input and wrote to the outputs.
 use Rattle.std.specs.Prelude.{◌≡◌, ℕ, ◌+◌, ◌<◌, ◌≤◌, ◌⊎◌, List, [], ◌++◌, length, IfSome, Some}
 use Rattle.ve_theory.specs.Presentations.{Presentation}
+use Rattle.std.specs.Io.KnownBytes.{prepend_known}
 use Rattle.ve_port.specs.Count.{HasRisen}
 use Rattle.ve_port.specs.Source as Source
-use Rattle.ve_port.specs.Source.{Gives}
+use Rattle.ve_port.specs.Source.{Gives, Fails}
 use Rattle.ve_port.specs.Sink as Sink
 use Rattle.ve_port.specs.Sink.{Gains, GainsPrefix, Breaks}
 use Rattle.ve_formats.specs.Causes.{Cause}
 use Rattle.ve_formats.specs.PresentationText.{Spells, IsRefusedAt}
-use Rattle.ve_formats.specs.Messages.{refusal_message, not_yet_message, too_long_message}
-use Rattle.ve_main.specs.Commands.{Means, CanWork, Makes, Demands}
+use Rattle.ve_formats.specs.Messages.{refusal_message, too_long_message, no_presentation_message}
+use Rattle.ve_theory.specs.Levels.{IsFinishedAt, IsOutgrown}
+use Rattle.ve_make.specs.Symmetric.{IsMade}
+use Rattle.ve_main.specs.Commands.{Asks, IsReading, HasLimit, IsShowing, CanMake, CannotMake, Enumerates, Shows, ShowsMade}
 use Rattle.ve_main.specs.Stops.{status_of, message_of}
-use Rattle.ve_main.specs.declared.command.Command.{Command}
+use Rattle.ve_words.specs.declared.command.Command.{Command}
+use Rattle.ve_words.specs.declared.command.Command.TheVariants.{Alone, Shared, Show, Check, Make}
 use Rattle.ve_main.specs.declared.stop.Stop.{Stop}
-use Rattle.ve_main.specs.declared.stop.Stop.TheVariants.{Words, TooLong, Refused, NotYet, Input, Output, Memory}
+use Rattle.ve_main.specs.declared.stop.Stop.TheVariants.{Words, TooLong, Refused, NoPresentation, Input, Output, Memory}
 
 -- the most bytes that an input may have
 abbrev pub most_input : ℕ
@@ -40,25 +44,31 @@ pub record TakesPiece (old new : Source.Input) (room : ℕ) (text text' : List �
   pub fits : count ≤ room
   pub ends : count ≡ 0 → IfSome new.left (λ left. left ≡ [])
 
--- why the next bytes were not taken
-abbrev pub StopsTaking : Source.Input → Source.Input → Stop → Type 0
-StopsTaking old new Words = ⊥
-StopsTaking old new TooLong = ⊥
-StopsTaking old new (Refused message) = ⊥
-StopsTaking old new NotYet = ⊥
-StopsTaking old new Input = HasRisen old.count new.count
-StopsTaking old new Output = ⊥
-StopsTaking old new Memory = new.count ≡ old.count
+-- why the next bytes, at most so many, were not added to the text
+abbrev pub StopsTaking : Source.Input → Source.Input → ℕ → Stop → Type 0
+StopsTaking old new room Words = ⊥
+StopsTaking old new room TooLong = ⊥
+StopsTaking old new room (Refused message) = ⊥
+StopsTaking old new room NoPresentation = ⊥
+StopsTaking old new room Input = Fails old new
+StopsTaking old new room Output = ⊥
+StopsTaking old new room Memory = (bytes : List ℕ) × Gives old new bytes × (length bytes ≤ room)
+
+-- at most one byte more than an input may have was taken
+pub record TakesFew (old new : Source.Input) : Type 0 where
+  pub bytes : List ℕ
+  pub left : old.left ≡ prepend_known bytes new.left
+  pub few : length bytes ≤ most_input + 1
 
 -- why the input was not taken whole
 abbrev pub StopsReading : Source.Input → Source.Input → Stop → Type 0
 StopsReading old new Words = ⊥
 StopsReading old new TooLong = TakesTooMany old new
 StopsReading old new (Refused message) = ⊥
-StopsReading old new NotYet = ⊥
-StopsReading old new Input = HasRisen old.count new.count
+StopsReading old new NoPresentation = ⊥
+StopsReading old new Input = HasRisen old.count new.count × TakesFew old new
 StopsReading old new Output = ⊥
-StopsReading old new Memory = new.count ≡ old.count
+StopsReading old new Memory = (new.count ≡ old.count) × TakesFew old new
 
 -- the text is refused, and the message tells the line and the cause
 pub record IsRefused (text message : List ℕ) : Type 0 where
@@ -67,82 +77,104 @@ pub record IsRefused (text message : List ℕ) : Type 0 where
   pub refused : IsRefusedAt text line cause
   pub told : message ≡ refusal_message line cause
 
--- the text spells a presentation that the command can't work on yet
-pub record IsNotYet (command : Command) (text : List ℕ) : Type 0 where
-  pub presentation : Presentation
-  pub spells : Spells text presentation
-  pub cannot : ¬ CanWork command presentation
-
 -- why a text gave no presentation
 abbrev pub StopsReadingText : List ℕ → Stop → Type 0
 StopsReadingText text Words = ⊥
 StopsReadingText text TooLong = ⊥
 StopsReadingText text (Refused message) = IsRefused text message.items
-StopsReadingText text NotYet = ⊥
+StopsReadingText text NoPresentation = ⊥
 StopsReadingText text Input = ⊥
 StopsReadingText text Output = ⊥
 StopsReadingText text Memory = Unit {0}
 
--- the text that the command makes of the presentation was written
-abbrev pub WritesText : Command → Presentation → Sink.Output → Sink.Output → Type 0
-WritesText command P old new = (text : List ℕ) × Makes command P text × Gains old new text
+-- the input was taken whole, and it spells this presentation
+pub record TakesPresentation (old new : Source.Input) (P : Presentation) : Type 0 where
+  pub bytes : List ℕ
+  pub takes : TakesAll old new bytes
+  pub spells : Spells bytes P
 
--- a part of it was written, from its front
-abbrev pub BeginsText : Command → Presentation → Sink.Output → Sink.Output → Type 0
-BeginsText command P old new = (text : List ℕ) × Makes command P text × GainsPrefix old new text
+-- why there is no presentation
+abbrev pub StopsTakingPresentation : Source.Input → Source.Input → Stop → Type 0
+StopsTakingPresentation old new Words = ⊥
+StopsTakingPresentation old new TooLong = TakesTooMany old new
+StopsTakingPresentation old new (Refused message) = (bytes : List ℕ) × TakesAll old new bytes × IsRefused bytes message.items
+StopsTakingPresentation old new NoPresentation = ⊥
+StopsTakingPresentation old new Input = HasRisen old.count new.count × TakesFew old new
+StopsTakingPresentation old new Output = ⊥
+StopsTakingPresentation old new Memory = (new.count ≡ old.count) × TakesFew old new
+
+-- a text that is called for with this status was written
+abbrev pub WritesText : (ℕ → List ℕ → Type 0) → Sink.Output → Sink.Output → ℕ → Type 0
+WritesText Calls old new status = (text : List ℕ) × Calls status text × Gains old new text
+
+-- a part of such a text was written, from its front
+abbrev pub BeginsText : (ℕ → List ℕ → Type 0) → Sink.Output → Sink.Output → Type 0
+BeginsText Calls old new = (status : ℕ) × (text : List ℕ) × Calls status text × GainsPrefix old new text
 
 -- why it was not written whole
-abbrev pub StopsWriting : Command → Presentation → Sink.Output → Sink.Output → Stop → Type 0
-StopsWriting command P old new Words = ⊥
-StopsWriting command P old new TooLong = ⊥
-StopsWriting command P old new (Refused message) = ⊥
-StopsWriting command P old new NotYet = (¬ CanWork command P) × (new ≡ old)
-StopsWriting command P old new Input = ⊥
-StopsWriting command P old new Output = BeginsText command P old new × HasRisen old.count new.count
-StopsWriting command P old new Memory = (new.count ≡ old.count) × ((new ≡ old) ⊎ BeginsText command P old new)
+abbrev pub StopsWriting : (ℕ → List ℕ → Type 0) → Sink.Output → Sink.Output → Stop → Type 0
+StopsWriting Calls old new Words = ⊥
+StopsWriting Calls old new TooLong = ⊥
+StopsWriting Calls old new (Refused message) = ⊥
+StopsWriting Calls old new NoPresentation = ⊥
+StopsWriting Calls old new Input = ⊥
+StopsWriting Calls old new Output = BeginsText Calls old new × HasRisen old.count new.count
+StopsWriting Calls old new Memory = (new.count ≡ old.count) × ((new ≡ old) ⊎ BeginsText Calls old new)
+
+-- why the text of a presentation that is made from numbers was not written whole: there is none, or the writing stopped
+abbrev pub StopsMaking : (points node prime : ℕ) → Sink.Output → Sink.Output → Stop → Type 0
+StopsMaking points node prime old new Words = ⊥
+StopsMaking points node prime old new TooLong = ⊥
+StopsMaking points node prime old new (Refused message) = ⊥
+StopsMaking points node prime old new NoPresentation = (¬ IsMade points node prime) × (new ≡ old)
+StopsMaking points node prime old new Input = ⊥
+StopsMaking points node prime old new Output = StopsWriting (ShowsMade points node prime) old new Output
+StopsMaking points node prime old new Memory = StopsWriting (ShowsMade points node prime) old new Memory
 
 -- what stood before a run, and what stands after it, of the input and of the output
 pub record Streams : Type 0 where
   pub source : Source.Input
   pub out : Sink.Output
 
--- The run wrote the whole text that the input calls for.
-pub record Finishes (words : List (List ℕ)) (old new : Streams) : Type 0 where
+-- What a command calls for: a status and a text, by what it took from the source.
+abbrev pub Calls : Command → Source.Input → Source.Input → ℕ → List ℕ → Type 0
+Calls (Alone limit summary) old new status text = (P : Presentation) × TakesPresentation old new P × Enumerates P limit summary status text
+Calls (Shared workers limit summary) old new status text = (P : Presentation) × TakesPresentation old new P × Enumerates P limit summary status text
+Calls Show old new status text = (P : Presentation) × TakesPresentation old new P × Shows P status text
+Calls Check old new status text = ⊥
+Calls (Make points node prime) old new status text = (new ≡ old) × ShowsMade points node prime status text
+
+-- The run wrote the whole text that the command calls for, with this status.
+abbrev pub Performs : Command → Streams → Streams → ℕ → Type 0
+Performs command old new status = WritesText (Calls command old.source new.source) old.out new.out status
+
+pub record Finishes (words : List (List ℕ)) (old new : Streams) (status : ℕ) : Type 0 where
   pub command : Command
-  pub means : Means words command
-  pub bytes : List ℕ
-  pub text : List ℕ
-  pub takes : TakesAll old.source new.source bytes
-  pub demands : Demands command bytes text
-  pub gains : Gains old.out new.out text
+  pub asks : Asks words command
+  pub performs : Performs command old new status
 
--- A part of the text that the input calls for was written, from its front.
-pub record WritesPart (command : Command) (old new : Streams) : Type 0 where
-  pub bytes : List ℕ
-  pub text : List ℕ
-  pub takes : TakesAll old.source new.source bytes
-  pub demands : Demands command bytes text
-  pub gains : GainsPrefix old.out new.out text
+-- A part of the text that the command calls for was written, from its front.
+abbrev pub WritesPart : Command → Streams → Streams → Type 0
+WritesPart command old new = BeginsText (Calls command old.source new.source) old.out new.out
 
--- the input was taken whole, nothing was written, and this holds of the input
-abbrev pub TakesSuch : (List ℕ → Type 0) → Streams → Streams → Type 0
-TakesSuch Q old new = ((bytes : List ℕ) × TakesAll old.source new.source bytes × Q bytes) × (new.out ≡ old.out)
-
--- What each cause of an end without the text says, where the words mean a command.
+-- What each cause of an end without the text says, where the words ask for a command.
 abbrev pub BecauseOf : Stop → Command → Streams → Streams → Type 0
 BecauseOf Words command old new = ⊥
-BecauseOf TooLong command old new = TakesTooMany old.source new.source × (new.out ≡ old.out)
-BecauseOf (Refused message) command old new = TakesSuch (λ bytes. IsRefused bytes message.items) old new
-BecauseOf NotYet command old new = TakesSuch (IsNotYet command) old new
-BecauseOf Input command old new = HasRisen old.source.count new.source.count × (new.out ≡ old.out)
+BecauseOf TooLong command old new = IsReading command × TakesTooMany old.source new.source × (new.out ≡ old.out)
+BecauseOf (Refused message) command old new =
+    IsReading command × ((bytes : List ℕ) × TakesAll old.source new.source bytes × IsRefused bytes message.items) × (new.out ≡ old.out)
+BecauseOf NoPresentation command old new = CannotMake command × (new ≡ old)
+BecauseOf Input command old new = IsReading command × HasRisen old.source.count new.source.count × TakesFew old.source new.source × (new.out ≡ old.out)
 BecauseOf Output command old new = WritesPart command old new × HasRisen old.out.count new.out.count
 BecauseOf Memory command old new =
-    (new.source.count ≡ old.source.count) × (new.out.count ≡ old.out.count) × ((new.out ≡ old.out) ⊎ WritesPart command old new)
+    (new.source.count ≡ old.source.count) × (new.out.count ≡ old.out.count) × TakesFew old.source new.source × ((new.out ≡ old.out) ⊎ WritesPart command old new)
 
--- The words mean no command, or one that stopped for the cause.
+-- The words ask for no command; or memory was wanted while they were read; or they ask for one that stopped for the cause.
 abbrev pub Because : Stop → List (List ℕ) → Streams → Streams → Type 0
 Because stop words old new =
-    ((stop ≡ Words) × ((command : Command) → ¬ Means words command) × (new ≡ old)) ⊎ ((command : Command) × Means words command × BecauseOf stop command old new)
+    ((stop ≡ Words) × ((command : Command) → ¬ Asks words command) × (new ≡ old))
+    ⊎ (((stop ≡ Memory) × (new ≡ old))
+    ⊎ ((command : Command) × Asks words command × BecauseOf stop command old new))
 
 -- the message stands on the error output, or a part of it where that failed
 abbrev pub Tells : Sink.Output → Sink.Output → List ℕ → Type 0
@@ -154,22 +186,24 @@ pub record StopsFor (stop : Stop) (words : List (List ℕ)) (old new : Streams) 
   pub because : Because stop words old new
   pub tells : Tells err err' (message_of stop)
 
--- How a run ends: with the text, status 0 and a silent error output, or for a cause.
+-- How a run ends: with the text and a silent error output, or for a cause.
 abbrev pub Ends : List (List ℕ) → Streams → Streams → Sink.Output → Sink.Output → ℕ → Type 0
-Ends words old new err err' status =
-    ((status ≡ 0) × (err' ≡ err) × Finishes words old new) ⊎ ((stop : Stop) × StopsFor stop words old new err err' status)
+Ends words old new err err' status = ((err' ≡ err) × Finishes words old new status) ⊎ ((stop : Stop) × StopsFor stop words old new err err' status)
 
 -- What is due to a text under a command: a status, and a message for the error output.
 pub data IsDue (command : Command) (text : List ℕ) : ℕ → List ℕ → Type 0 where
-  too_long : most_input < length text → IsDue command text 3 too_long_message
-  refused : {line : ℕ} {cause : Cause} → length text ≤ most_input → IsRefusedAt text line cause → IsDue command text 3 (refusal_message line cause)
-  not_yet : length text ≤ most_input → IsNotYet command text → IsDue command text 3 not_yet_message
-  worked : {P : Presentation} → length text ≤ most_input → Spells text P → CanWork command P → IsDue command text 0 []
+  too_long : IsReading command → most_input < length text → IsDue command text 3 too_long_message
+  refused : {line : ℕ} {cause : Cause} → IsReading command → length text ≤ most_input → IsRefusedAt text line cause → IsDue command text 3 (refusal_message line cause)
+  finished : {P : Presentation} {limit level : ℕ} → HasLimit command limit → length text ≤ most_input → Spells text P → IsFinishedAt P limit level → IsDue command text 0 []
+  outgrown : {P : Presentation} {limit level size : ℕ} → HasLimit command limit → length text ≤ most_input → Spells text P → IsOutgrown P limit level size → IsDue command text 1 []
+  shown : {P : Presentation} → IsShowing command → length text ≤ most_input → Spells text P → IsDue command text 0 []
+  made : CanMake command → IsDue command text 0 []
+  not_made : CannotMake command → IsDue command text 3 no_presentation_message
 
--- The words mean the command, the source tells the text, and neither the source nor the output fails.
+-- The words ask for the command, the source tells the text where one is read, and neither the source nor the output fails.
 pub record IsServed (words : List (List ℕ)) (old new : Streams) (command : Command) (text : List ℕ) : Type 0 where
-  pub means : Means words command
-  pub told : old.source.left ≡ Some text
+  pub asks : Asks words command
+  pub told : IsReading command → old.source.left ≡ Some text
   pub source_holds : ¬ HasRisen old.source.count new.source.count
   pub out_holds : ¬ HasRisen old.out.count new.out.count
 

@@ -43,7 +43,7 @@ fn take_piece<S: Source>(
 ) -> Result<usize, Stop>
     requires { 0 < length buffer.old }
     ensures taken { IfOk result (TakesPiece (S.input source.old) (S.input source.new) (length buffer.old) text.old.items text.new.items) }
-    ensures stopped { IfErr result (StopsTaking (S.input source.old) (S.input source.new)) }
+    ensures stopped { IfErr result (StopsTaking (S.input source.old) (S.input source.new) (length buffer.old)) }
 {
     let Ok(taken) = source.take(buffer) else {
         return Err(Stop::Input);

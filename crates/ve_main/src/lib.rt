@@ -1,19 +1,17 @@
 //! The commands of the program: what they read, do and write, and the status that they end with.
 #![tactic(auto)]
 
-mod command;
+mod enumeration;
 mod input;
-mod output;
-mod power_form;
-mod power_law;
-mod power_relation;
-mod power_text;
+mod presentation;
 mod refusal;
 mod run;
 mod stop;
 mod text;
+mod writing;
 
 pub use run::run_alone;
+pub use ve_words::{Command, WordsFault, read_words};
 
 #[cfg(test)]
 mod tests;

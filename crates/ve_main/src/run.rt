@@ -1,24 +1,21 @@
-ghost use Rattle.std.specs.Prelude.{map, string_bytes, IfErr, IfOk, OnOk};
-ghost use Rattle.ve_formats.specs.PresentationText.{Spells};
-ghost use Rattle.ve_main.specs.Ending.{Because, Ends, Finishes, ServesAll, StopsReadingText, StopsWriting, WritesText};
+ghost use Rattle.std.specs.Prelude.{◌≡◌, ◌≤◌, ◌⊎◌, ℕ, map, string_bytes, IfErr, IfOk};
+ghost use Rattle.ve_levels.specs.Advancing.{most_limit};
+ghost use Rattle.ve_main.specs.Commands.{Asks, HasLimit, IsRun};
+ghost use Rattle.ve_main.specs.Ending.{Because, BecauseOf, Ends, Finishes, Performs, ServesAll};
 
-use crate::command::{Command, command_of};
-use crate::input::read_input;
-use crate::output::put_lines;
-use crate::power_form::power_relation_of;
-use crate::power_law::power_answers;
-use crate::power_text::answer_of;
-use crate::refusal::refusal_message;
+use crate::presentation::take_presentation;
 use crate::stop::Stop;
+use crate::writing::{write_enumeration, write_made, write_shown};
 use std::alloc::Global;
-use ve_formats::text_spells_once;
+use ve_formats::{spelled_is_valid, text_spells_once};
 use ve_port::{Sink, Source};
-use ve_pres::Presentation;
-use ve_read::{Why, read};
-use ve_show::show;
+use ve_theory::uniqueness::lists_are_unique;
+use ve_words::{Command, read_words, words_mean_once};
 
-/// Runs the command that the words of a command line name: reads its input from `source`, writes its text to `out` and
+/// Runs the command that the words of a command line ask for: reads its input from `source`, writes its text to `out` and
 /// the message of a failure to `err`. Answers the status that the program ends with.
+///
+/// What is asked of threads is done on one, with the same bytes.
 pub fn run_alone<S: Source, K: Sink, E: Sink>(
     alloc: Global,
     words: &Vec<String>,
@@ -36,8 +33,11 @@ pub fn run_alone<S: Source, K: Sink, E: Sink>(
         (E.output err.old) (E.output err.new) result }
 {
     text_spells_once();
+    spelled_is_valid();
+    words_mean_once();
+    lists_are_unique();
     match execute(alloc, words, source, out) {
-        Ok(()) => 0,
+        Ok(status) => status,
         Err(stop) => {
             let _ = err.put(stop.message());
             stop.status()
@@ -45,70 +45,69 @@ pub fn run_alone<S: Source, K: Sink, E: Sink>(
     }
 }
 
-/// Does what the words ask for.
+/// Does what the words ask for. Answers the status of a run that wrote its text.
 fn execute<S: Source, K: Sink>(
     alloc: Global,
     words: &Vec<String>,
     source: &mut S,
     out: &mut K,
-) -> Result<(), Stop>
-    ensures finished { OnOk result (Finishes (map string_bytes words.now.items)
+) -> Result<u8, Stop>
+    ensures finished { IfOk result (Finishes (map string_bytes words.now.items)
         (record { source = S.input source.old; out = K.output out.old })
         (record { source = S.input source.new; out = K.output out.new })) }
     ensures stopped { IfErr result (λ stop. Because stop (map string_bytes words.now.items)
         (record { source = S.input source.old; out = K.output out.old })
         (record { source = S.input source.new; out = K.output out.new })) }
 {
-    let Some(command) = command_of(words) else {
-        return Err(Stop::Words);
-    };
-    let input = read_input(alloc, source)?;
-    let presentation = read_presentation(alloc, &input)?;
-    write_text(alloc, command, &presentation, out)
+    let command = asked_command(alloc, words)?;
+    perform(alloc, command, source, out)
 }
 
-/// The presentation that a text spells.
-fn read_presentation(alloc: Global, text: &[u8]) -> Result<Presentation, Stop>
-    ensures spelled { IfOk result (λ presentation. Spells text.now presentation.presentation) }
-    ensures stopped { IfErr result (StopsReadingText text.now) }
+/// The command that the words ask for. Answers are not checked yet.
+fn asked_command(alloc: Global, words: &Vec<String>) -> Result<Command, Stop>
+    ensures asked { IfOk result (Asks (map string_bytes words.now.items)) }
+    ensures stopped { IfErr result (λ stop. ((stop ≡ Stop.Words) × ((command : Command) → ¬ Asks (map string_bytes words.now.items) command)) ⊎ (stop ≡ Stop.Memory)) }
 {
-    match read(alloc, text) {
-        Ok(presentation) => Ok(presentation),
-        Err(refusal) if refusal.why == Why::Memory => Err(Stop::Memory),
-        Err(refusal) => Err(Stop::Refused(refusal_message(alloc, &refusal)?)),
+    match read_words(alloc, words)? {
+        Command::Check => Err(Stop::Words),
+        command => Ok(command),
     }
 }
 
-/// Writes the text that a command makes of a presentation.
-fn write_text<K: Sink>(
+/// Performs a command. Answers the status of a run that wrote its text.
+fn perform<S: Source, K: Sink>(
     alloc: Global,
     command: Command,
-    presentation: &Presentation,
+    source: &mut S,
     out: &mut K,
-) -> Result<(), Stop>
-    ensures written { OnOk result (WritesText command presentation.now.presentation (K.output out.old) (K.output out.new)) }
-    ensures stopped { IfErr result (StopsWriting command presentation.now.presentation (K.output out.old) (K.output out.new)) }
+) -> Result<u8, Stop>
+    requires runs { IsRun command }
+    requires limits { (limit : ℕ) → HasLimit command limit → limit ≤ most_limit }
+    ensures finished { IfOk result (Performs command
+        (record { source = S.input source.old; out = K.output out.old })
+        (record { source = S.input source.new; out = K.output out.new })) }
+    ensures stopped { IfErr result (λ stop. BecauseOf stop command
+        (record { source = S.input source.old; out = K.output out.old })
+        (record { source = S.input source.new; out = K.output out.new })) }
 {
     match command {
-        Command::Alone => write_answer(alloc, presentation, out),
-        Command::Show => Ok(show(alloc, presentation, out)?),
+        Command::Alone { limit, summary } => {
+            let presentation = take_presentation(alloc, source)?;
+            write_enumeration(alloc, presentation, limit, summary, out)
+        }
+        Command::Shared { limit, summary, .. } => {
+            let presentation = take_presentation(alloc, source)?;
+            write_enumeration(alloc, presentation, limit, summary, out)
+        }
+        Command::Show => {
+            let presentation = take_presentation(alloc, source)?;
+            write_shown(alloc, &presentation, out)
+        }
+        Command::Make {
+            points,
+            node,
+            prime,
+        } => write_made(alloc, points, node, prime, out),
+        Command::Check => unreachable!(),
     }
-}
-
-/// Writes the answer of a presentation.
-fn write_answer<K: Sink>(
-    alloc: Global,
-    presentation: &Presentation,
-    out: &mut K,
-) -> Result<(), Stop>
-    ensures written { OnOk result (WritesText Command.Alone presentation.now.presentation (K.output out.old) (K.output out.new)) }
-    ensures stopped { IfErr result (StopsWriting Command.Alone presentation.now.presentation (K.output out.old) (K.output out.new)) }
-{
-    power_answers();
-    let Some(relation) = power_relation_of(alloc, presentation)? else {
-        return Err(Stop::NotYet);
-    };
-    let text = answer_of(alloc, &relation)?;
-    put_lines(&text, out)?;
-    Ok(())
 }

@@ -1,9 +1,10 @@
 ghost use Rattle.std.specs.Prelude.{◌≡◌};
-ghost use Rattle.ve_main.specs.Stops.{status_of, message_of, stop_of};
+ghost use Rattle.ve_main.specs.Stops.{status_of, message_of, stop_of, stop_of_words};
 ghost use Rattle.ve_main.specs.declared.stop.Stop.TheVariants.{Memory as OutOfMemory};
 
 use ve_port::OutFault;
 use ve_word::Memory;
+use ve_words::WordsFault;
 
 /// Why a run ends without its text.
 #[derive(Drop)]
@@ -14,8 +15,8 @@ pub enum Stop {
     TooLong,
     /// The text is refused, with the message of its first fault.
     Refused(Vec<u8>),
-    /// The presentation is not one that can be worked on.
-    NotYet,
+    /// There is no presentation with the numbers of the command.
+    NoPresentation,
     /// The source failed.
     Input,
     /// The output failed.
@@ -31,7 +32,7 @@ impl Stop {
     {
         match self {
             Stop::Words => 2,
-            Stop::TooLong | Stop::Refused(_) | Stop::NotYet => 3,
+            Stop::TooLong | Stop::Refused(_) | Stop::NoPresentation => 3,
             Stop::Input => 4,
             Stop::Output => 5,
             Stop::Memory => 6,
@@ -48,7 +49,7 @@ impl Stop {
             }
             Stop::TooLong => b"venum: input longer than 16777216 bytes\n",
             Stop::Refused(message) => message,
-            Stop::NotYet => b"venum: not yet\n",
+            Stop::NoPresentation => b"venum: no such presentation\n",
             Stop::Input => b"venum: input failed\n",
             Stop::Output => b"venum: output failed\n",
             Stop::Memory => b"venum: out of memory\n",
@@ -61,6 +62,17 @@ impl From<Memory> for Stop {
 
     fn from(_want: Memory) -> Stop {
         Stop::Memory
+    }
+}
+
+impl From<WordsFault> for Stop {
+    ghost from_gives = { λ fault stop. stop ≡ stop_of_words fault };
+
+    fn from(fault: WordsFault) -> Stop {
+        match fault {
+            WordsFault::Refused => Stop::Words,
+            WordsFault::Memory => Stop::Memory,
+        }
     }
 }
 

@@ -8,7 +8,10 @@ returns-in-Ok-clause-serves g c command text due message served is_due =
     let once : IsReadOnce = record {
       same_presentation = c.text_spells_once.ensures.same_presentation;
       same_refusal = c.text_spells_once.ensures.same_refusal;
-      never_both = c.text_spells_once.ensures.never_both;
+      never_both_readings = c.text_spells_once.ensures.never_both;
+      valid = λ text P spells. (c.spelled_is_valid.ensures text P spells).presentation;
+      lists = c.lists_are_unique.ensures;
+      words = c.words_mean_once.ensures;
     } in
     told_status (finished_due once c.in-Ok.ensures.finished command text due message served is_due) (inl (Gains-nil _))
 
@@ -17,7 +20,10 @@ returns-in-Err-clause-serves g c command text due message served is_due =
     let once : IsReadOnce = record {
       same_presentation = c.text_spells_once.ensures.same_presentation;
       same_refusal = c.text_spells_once.ensures.same_refusal;
-      never_both = c.text_spells_once.ensures.never_both;
+      never_both_readings = c.text_spells_once.ensures.never_both;
+      valid = λ text P spells. (c.spelled_is_valid.ensures text P spells).presentation;
+      lists = c.lists_are_unique.ensures;
+      words = c.words_mean_once.ensures;
     } in
     rw c.status.ensures
     (told_status (stopped_due once c.in-Err.stop c.in-Err.ensures.stopped command text due message served is_due)
