@@ -134,9 +134,11 @@ are_names names = elim (cases_lt most_letters (length names)) [
     opposite : {P : Type 0} → Choice P → Choice (P → ⊥)
     opposite (inl h) = inr (λ none. none h)
     opposite (inr none) = inl none
+
     surely : {P : Type 0} → Choice P → ((P → ⊥) → ⊥) → P
     surely (inl h) not_none = h
     surely (inr none) not_none = absurd (not_none none)
+
     twin : (j : ℕ) → Choice ((i : ℕ) × (i < j) × (get_or names i [] ≡ get_or names j []))
     twin j = elim (some_below (λ i. get_or names i [] ≡ get_or names j []) (λ i. same_text (get_or names i []) (get_or names j [])) j) [
       | inl h ↦ inl h
@@ -163,18 +165,18 @@ fits_end draft line = elim (same_text line (codes "end")) [
 fits_prime : (draft : Draft) (line : List ℕ) → Fitting draft places.prime line
 fits_prime draft line = elim (number_line (λ k. numbered (codes "prime") (get_or primes k 0)) (length primes) line) [
   | inl h ↦
-    let p : ℕ = get_or primes h.0 0 in
-    let field : IsFieldPrime p = (h.0, h.1, get_or_default primes h.0 p 0 h.1) in
-    inl (record draft { prime = p }, subst (λ l. Fills draft places.prime l (record draft { prime = p })) (sym h.2) (a_prime p field))
+      let p : ℕ = get_or primes h.0 0 in
+      let field : IsFieldPrime p = (h.0, h.1, get_or_default primes h.0 p 0 h.1) in
+      inl (record draft { prime = p }, subst (λ l. Fills draft places.prime l (record draft { prime = p })) (sym h.2) (a_prime p field))
   | inr none ↦ inr (λ next f. let a = prime_filled f in
-    none a.1.0 a.1.1 (a.2 ∙ ap (numbered (codes "prime")) (sym a.1.2 ∙ get_or_default primes a.1.0 a.0 0 a.1.1)))
+      none a.1.0 a.1.1 (a.2 ∙ ap (numbered (codes "prime")) (sym a.1.2 ∙ get_or_default primes a.1.0 a.0 0 a.1.1)))
 ]
 
 fits_generators : (draft : Draft) (line : List ℕ) → Fitting draft places.generators line
 fits_generators draft line = elim (number_line (λ k. numbered (codes "module") (k + 1)) most_generators line) [
   | inl h ↦ inl (record draft { generators = h.0 + 1 }, subst (λ l. Fills draft places.generators l (record draft { generators = h.0 + 1 })) (sym h.2) (some_generators (h.0 + 1) (omega arith) (omega (arith, h.1))))
   | inr none ↦ inr (λ next f. let a = generators_filled f in let same : a.0 ≡ (a.0 - 1) + 1 = omega (arith, a.1) in
-    none (a.0 - 1) (omega (arith, a.1, a.2)) (a.3 ∙ ap (numbered (codes "module")) same))
+      none (a.0 - 1) (omega (arith, a.1, a.2)) (a.3 ∙ ap (numbered (codes "module")) same))
 ]
 
 fits_level : (draft : Draft) (line : List ℕ) → Fitting draft places.closed line
@@ -196,11 +198,13 @@ fits_names draft line = elim (behind_word (codes "letters") line) [
   | inl h ↦ elim (spaced h.0) [
     | inr none ↦ inr (λ next f. let a = names_filled f in none a.0 (names_lack a.0 a.1, append_cancel_left (codes "letters") _ _ (sym h.1 ∙ a.2)))
     | inl cut_up ↦ elim (are_names cut_up.0) [
-      | inl are ↦ inl (record draft { names = cut_up.0 },
-        subst (λ l. Fills draft places.names l (record draft { names = cut_up.0 })) (sym (h.1 ∙ ap (λ t. codes "letters" ++ t) cut_up.1.1)) (some_names cut_up.0 are))
+      | inl are ↦ inl (
+        record draft { names = cut_up.0 },
+        subst (λ l. Fills draft places.names l (record draft { names = cut_up.0 })) (sym (h.1 ∙ ap (λ t. codes "letters" ++ t) cut_up.1.1)) (some_names cut_up.0 are),
+      )
       | inr bad ↦ inr (λ next f. let a = names_filled f in
-        let same : a.0 ≡ cut_up.0 = pieces_once a.0 cut_up.0 (names_lack a.0 a.1) cut_up.1.0 (sym (append_cancel_left (codes "letters") _ _ (sym h.1 ∙ a.2)) ∙ cut_up.1.1) in
-        bad (subst AreNames same a.1))
+          let same : a.0 ≡ cut_up.0 = pieces_once a.0 cut_up.0 (names_lack a.0 a.1) cut_up.1.0 (sym (append_cancel_left (codes "letters") _ _ (sym h.1 ∙ a.2)) ∙ cut_up.1.1) in
+          bad (subst AreNames same a.1))
     ]
   ]
 ]
@@ -210,8 +214,8 @@ fits_letter draft line = elim (slice_get_cases draft.names (length draft.matrice
   | inl found ↦ elim (same_text line (codes "letter " ++ found.0)) [
     | inl is ↦ inl (record draft { matrices = draft.matrices ++ [] ∷ [] }, subst (λ l. Fills draft places.letter l (record draft { matrices = draft.matrices ++ [] ∷ [] })) (sym is) (a_letter found.0 found.2))
     | inr other ↦ inr (λ next f. let a = letter_filled f in
-      let same : a.0 ≡ found.0 = sym (get_or_from_slice_get draft.names (length draft.matrices) a.0 [] a.1) ∙ get_or_from_slice_get draft.names (length draft.matrices) found.0 [] found.2 in
-      other (a.2 ∙ ap (λ x. codes "letter " ++ x) same))
+        let same : a.0 ≡ found.0 = sym (get_or_from_slice_get draft.names (length draft.matrices) a.0 [] a.1) ∙ get_or_from_slice_get draft.names (length draft.matrices) found.0 [] found.2 in
+        other (a.2 ∙ ap (λ x. codes "letter " ++ x) same))
   ]
   | inr past ↦ inr (λ next f. let a = letter_filled f in let bad : Some a.0 ≡ None = sym a.1 ∙ past.1 in absurd (cc))
 ]
@@ -250,13 +254,16 @@ unfolding Candidate
 fits_word draft kept line = elim (candidate draft line) [
   | inr none ↦ inr (λ next f. let a = word_filled f in none a.0 (a.1, a.3))
   | inl c ↦ elim (some_below (λ k. word_text draft.names (get_or draft.basis k (generator 0)) ≡ word_text draft.names c.0) (λ k. same_text (word_text draft.names (get_or draft.basis k (generator 0))) (word_text draft.names c.0)) (length draft.basis)) [
-    | inr fresh ↦ inl (record draft { basis = draft.basis ++ c.0 ∷ [] }, subst (λ l. Fills draft places.word l (record draft { basis = draft.basis ++ c.0 ∷ [] })) (sym c.1.1)
-      (a_word c.0 c.1.0 (λ found. fresh found.0 found.1 (ap (word_text draft.names) (get_or_default draft.basis found.0 (generator 0) c.0 found.1 ∙ found.2)))))
+    | inr fresh ↦ inl (
+      record draft { basis = draft.basis ++ c.0 ∷ [] },
+      subst (λ l. Fills draft places.word l (record draft { basis = draft.basis ++ c.0 ∷ [] })) (sym c.1.1)
+          (a_word c.0 c.1.0 (λ found. fresh found.0 found.1 (ap (word_text draft.names) (get_or_default draft.basis found.0 (generator 0) c.0 found.1 ∙ found.2)))),
+    )
     | inl old ↦ inr (λ next f. let a = word_filled f in
-      let written : IsWritten draft.names (get_or draft.basis old.0 (generator 0)) = All-get_or (IsWritten draft.names) draft.basis old.0 (generator 0) old.1 kept.words in
-      let texts : word_text draft.names a.0 ≡ word_text draft.names c.0 = append_cancel_left (codes "basis ") _ _ (sym a.3 ∙ c.1.1) in
-      let same : get_or draft.basis old.0 (generator 0) ≡ a.0 = words_once draft.names kept.names (get_or draft.basis old.0 (generator 0)) a.0 written (grown_written kept a.0 a.1) (old.2 ∙ sym texts) in
-      a.2 (old.0, old.1, get_or_default draft.basis old.0 a.0 (generator 0) old.1 ∙ same))
+        let written : IsWritten draft.names (get_or draft.basis old.0 (generator 0)) = All-get_or (IsWritten draft.names) draft.basis old.0 (generator 0) old.1 kept.words in
+        let texts : word_text draft.names a.0 ≡ word_text draft.names c.0 = append_cancel_left (codes "basis ") _ _ (sym a.3 ∙ c.1.1) in
+        let same : get_or draft.basis old.0 (generator 0) ≡ a.0 = words_once draft.names kept.names (get_or draft.basis old.0 (generator 0)) a.0 written (grown_written kept a.0 a.1) (old.2 ∙ sym texts) in
+        a.2 (old.0, old.1, get_or_default draft.basis old.0 a.0 (generator 0) old.1 ∙ same))
   ]
 ]
 
@@ -308,9 +315,9 @@ module _ (p : ℕ) (f : ℕ → ℕ) where
         entries = λ k less. elim (cases_lt k n) [
           | inl below ↦ omega (arith, cond-false (nat_eq n k) (f n) 0 (ne_eqb n k (λ is. omega (arith, is, below))), upto.entries k below)
           | inr above ↦
-            let here : n ≡ k = omega (arith, less, above) in
-            let own : cond (nat_eq n k) (f n) 0 ≡ f n = cond-true (nat_eq n k) (f n) 0 (eq-eqb n k here) in
-            omega (arith, own, absent n v upto.before k above, ap f here)
+              let here : n ≡ k = omega (arith, less, above) in
+              let own : cond (nat_eq n k) (f n) 0 ≡ f n = cond-true (nat_eq n k) (f n) 0 (eq-eqb n k here) in
+              omega (arith, own, absent n v upto.before k above, ap f here)
         ];
       })
 
@@ -324,13 +331,13 @@ unfolding coefficient IsReduced
 coefficient_range p [] reduced k = inl refl
 coefficient_range p (t ∷ v) reduced k = elim (cases_Bool (nat_eq t.0 k)) [
   | inl here ↦
-    let own : cond (nat_eq t.0 k) t.1 0 ≡ t.1 = cond-true (nat_eq t.0 k) t.1 0 here in
-    let none : coefficient nat_eq v k ≡ 0 = absent t.0 v reduced.2 k (omega (arith, eqb-true t.0 k here)) in
-    inr (omega (arith, own, none, reduced.0), omega (arith, own, none, reduced.1))
+      let own : cond (nat_eq t.0 k) t.1 0 ≡ t.1 = cond-true (nat_eq t.0 k) t.1 0 here in
+      let none : coefficient nat_eq v k ≡ 0 = absent t.0 v reduced.2 k (omega (arith, eqb-true t.0 k here)) in
+      inr (omega (arith, own, none, reduced.0), omega (arith, own, none, reduced.1))
   | inr other ↦
-    let own : cond (nat_eq t.0 k) t.1 0 ≡ 0 = cond-false (nat_eq t.0 k) t.1 0 other in
-    let same : cond (nat_eq t.0 k) t.1 0 + coefficient nat_eq v k ≡ coefficient nat_eq v k = omega (arith, own) in
-    subst (λ c. (c ≡ 0) ⊎ ((0 < c) × (c < p))) (sym same) (coefficient_range p v reduced.3 k)
+      let own : cond (nat_eq t.0 k) t.1 0 ≡ 0 = cond-false (nat_eq t.0 k) t.1 0 other in
+      let same : cond (nat_eq t.0 k) t.1 0 + coefficient nat_eq v k ≡ coefficient nat_eq v k = omega (arith, own) in
+      subst (λ c. (c ≡ 0) ⊎ ((0 < c) × (c < p))) (sym same) (coefficient_range p v reduced.3 k)
 ]
 
 row_pieces : ℕ → Row → List (List ℕ)
@@ -404,18 +411,18 @@ row_line_choice p n most word line = elim (behind_word word line) [
     | inr none ↦ inr (λ v h. none (row_pieces n v) (row_pieces-lack p n v most h.0.0, append_cancel_left word _ _ (sym w.1 ∙ h.1)))
     | inl s ↦ elim (cases_Bool (nat_eq (length s.0) n)) [
       | inr other ↦ inr (λ v h.
-        let same : row_pieces n v ≡ s.0 = pieces_once (row_pieces n v) s.0 (row_pieces-lack p n v most h.0.0) s.1.0 (sym (append_cancel_left word _ _ (sym w.1 ∙ h.1)) ∙ s.1.1) in
-        let size : length s.0 ≡ n = ap length (sym same) ∙ length-row_pieces n v in
-        let test : nat_eq (length s.0) n ≡ true = eq-eqb (length s.0) n size in
-        let bad : true ≡ false = sym test ∙ other in
-        absurd (cc))
+          let same : row_pieces n v ≡ s.0 = pieces_once (row_pieces n v) s.0 (row_pieces-lack p n v most h.0.0) s.1.0 (sym (append_cancel_left word _ _ (sym w.1 ∙ h.1)) ∙ s.1.1) in
+          let size : length s.0 ≡ n = ap length (sym same) ∙ length-row_pieces n v in
+          let test : nat_eq (length s.0) n ≡ true = eq-eqb (length s.0) n size in
+          let bad : true ≡ false = sym test ∙ other in
+          absurd (cc))
       | inl full ↦ elim (some_below (λ k. (c : ℕ) → c < suc p → IsEntry p (get_or s.0 k []) c → ⊥) (λ k. no_entry p (get_or s.0 k [])) n) [
         | inl bad ↦ inr (λ v h.
-          let same : row_pieces n v ≡ s.0 = pieces_once (row_pieces n v) s.0 (row_pieces-lack p n v most h.0.0) s.1.0 (sym (append_cancel_left word _ _ (sym w.1 ∙ h.1)) ∙ s.1.1) in
-          bad.2 (coefficient nat_eq v bad.0) (omega (arith, small p v h.0.0 bad.0)) (ap (λ ps. get_or ps bad.0 []) (sym same) ∙ row_piece n v bad.0 bad.1, coefficient_range p v h.0.0 bad.0))
+            let same : row_pieces n v ≡ s.0 = pieces_once (row_pieces n v) s.0 (row_pieces-lack p n v most h.0.0) s.1.0 (sym (append_cancel_left word _ _ (sym w.1 ∙ h.1)) ∙ s.1.1) in
+            bad.2 (coefficient nat_eq v bad.0) (omega (arith, small p v h.0.0 bad.0)) (ap (λ ps. get_or ps bad.0 []) (sym same) ∙ row_piece n v bad.0 bad.1, coefficient_range p v h.0.0 bad.0))
         | inr good ↦
-          let count : length s.0 ≡ n = eqb-true (length s.0) n full in
-          inl (read_row p n s.0 count good, (read_is_row p n s.0 count good, w.1 ∙ ap (λ t. word ++ t) (s.1.1 ∙ ap each_after_space (read_pieces p n s.0 count good))))
+            let count : length s.0 ≡ n = eqb-true (length s.0) n full in
+            inl (read_row p n s.0 count good, (read_is_row p n s.0 count good, w.1 ∙ ap (λ t. word ++ t) (s.1.1 ∙ ap each_after_space (read_pieces p n s.0 count good))))
       ]
     ]
   ]

@@ -50,10 +50,14 @@ grown_at (with_generator ws i grown) at inside = elim (cases_lt at (length ws)) 
 grown_at (with_child ws j x grown less) at inside = elim (cases_lt at (length ws)) [
   | inl below ↦ earlier ws (times (get_or ws j (generator 0)) x) at below (grown_at grown at below)
   | inr above ↦
-    let here : at ≡ length ws = omega (arith, inside, length_push ws (times (get_or ws j (generator 0)) x)) in
-    inr (j, x, omega (arith, less, here),
-    ap (λ k. get_or (ws ++ times (get_or ws j (generator 0)) x ∷ []) k (generator 0)) here ∙ at_seam ws [] (times (get_or ws j (generator 0)) x) (generator 0)
-    ∙ ap (λ v. times v x) (sym (get_or_append_left ws (times (get_or ws j (generator 0)) x ∷ []) (generator 0) j less)))
+      let here : at ≡ length ws = omega (arith, inside, length_push ws (times (get_or ws j (generator 0)) x)) in
+      inr (
+        j,
+        x,
+        omega (arith, less, here),
+        ap (λ k. get_or (ws ++ times (get_or ws j (generator 0)) x ∷ []) k (generator 0)) here ∙ at_seam ws [] (times (get_or ws j (generator 0)) x) (generator 0)
+            ∙ ap (λ v. times v x) (sym (get_or_append_left ws (times (get_or ws j (generator 0)) x ∷ []) (generator 0) j less)),
+      )
 ]
   where
     earlier : (ws : List Word) (w : Word) (at : ℕ) → at < length ws
@@ -84,23 +88,30 @@ addable A writable draft front (w ∷ back) generators names basis is =
   where
     words : List Word
     words = A.action.basis
+
     here : get_or words (length front) (generator 0) ≡ w
     here = ap (λ ws. get_or ws (length front) (generator 0)) is ∙ at_seam front back w (generator 0)
+
     inside : length front < length words
     inside = omega (arith, ap length is, length-append front (w ∷ back))
+
     word : (start w < A.generators) × All (λ x. x < length A.names) (letters w)
     word = subst (λ v. (start v < A.generators) × All (λ x. x < length A.names) (letters v)) here (All-get_or (λ v. (start v < A.generators) × All (λ x. x < length A.names) (letters v)) words (length front) (generator 0) inside writable.form.words)
+
     front_at : (k : ℕ) → k < length front → get_or words k (generator 0) ≡ get_or draft.basis k (generator 0)
     front_at k less = ap (λ ws. get_or ws k (generator 0)) is ∙ get_or_append_left front (w ∷ back) (generator 0) k less ∙ ap (λ ws. get_or ws k (generator 0)) (sym basis)
+
     fresh : Contains draft.basis w → ⊥
     fresh found =
         let less : found.0 < length front = omega (arith, found.1, ap length basis) in
         let same : get_or words found.0 (generator 0) ≡ w = front_at found.0 less ∙ get_or_default draft.basis found.0 (generator 0) w found.1 ∙ found.2 in
         writable.distinct found.0 (length front) (generator 0) less inside (same ∙ sym here)
+
     as_generator : (i : ℕ) → w ≡ generator i → Grows draft w
     as_generator i this =
         let below : i < A.generators = subst (λ k. k < A.generators) (start-generator i) (subst (λ v. start v < A.generators) this word.0) in
         subst (Grows draft) (sym this) (a_generator i (omega (arith, below, generators)))
+
     as_child : (j x : ℕ) → j < length front → w ≡ times (get_or words j (generator 0)) x → Grows draft w
     as_child j x less this =
         let v : Word = get_or words j (generator 0) in
@@ -108,6 +119,7 @@ addable A writable draft front (w ∷ back) generators names basis is =
         let stands : Contains draft.basis v = (j, within, get_or_default draft.basis j v (generator 0) within ∙ sym (front_at j less)) in
         let last : x < length A.names = All-last (λ y. y < length A.names) (letters v) x (subst (All (λ y. y < length A.names)) (letters-times v x) (subst (λ u. All (λ y. y < length A.names) (letters u)) this word.1)) in
         subst (Grows draft) (sym this) (a_child v x stands (omega (arith, last, ap length names)))
+
     grows : Grows draft w
     grows = elim (grown_at writable.form.grown (length front) inside) [ inl g ↦ as_generator g.0 (sym here ∙ g.1) | inr c ↦ as_child c.0 c.1 c.2 (sym here ∙ c.3) ]
 
@@ -182,25 +194,33 @@ fill_matrices A draft done (matrix ∷ more) {left} {lines} {last} writable prim
   where
     x : ℕ
     x = length done
+
     behind : List (List ℕ)
     behind = letters_from A (suc x) (length more)
+
     inside : x < length A.action.matrices
     inside = omega (arith, ap length is, length-append done (matrix ∷ more))
+
     here : get_or A.action.matrices x [] ≡ matrix
     here = ap (λ ms. get_or ms x []) is ∙ at_seam done more matrix []
+
     named : slice_get draft.names x ≡ Some (get_or A.names x [])
     named = ap (λ ns. slice_get ns x) names ∙ slice_get-get_or A.names x [] (omega (arith, inside, writable.form.one_matrix_each))
+
     size : length matrix ≡ draft.dimension
     size = ap length (sym here) ∙ All-get_or (λ m. length m ≡ answers.dimension A.action) A.action.matrices x [] inside writable.form.square ∙ sym dimension
+
     rows : All (IsRow draft.prime draft.dimension) matrix
     rows =
         subst (λ p. All (IsRow p draft.dimension) matrix) (sym prime)
         (subst (λ n. All (IsRow A.prime n) matrix) (sym dimension)
         (subst (All (IsRow A.prime (answers.dimension A.action))) here (All-get_or (All (IsRow A.prime (answers.dimension A.action))) A.action.matrices x [] inside writable.form.matrices)))
+
     places_are : replicate (length matrix) places.row ++ (matrix_places draft.dimension (length more) ++ left) ≡ (replicate draft.dimension places.row ++ matrix_places draft.dimension (length more)) ++ left
     places_are =
         ap (λ n. replicate n places.row ++ (matrix_places draft.dimension (length more) ++ left)) size
         ∙ sym (append_assoc (replicate draft.dimension places.row) (matrix_places draft.dimension (length more)) left)
+
     lines_are : map (row_line draft.dimension) matrix ++ (behind ++ lines) ≡ (map (row_line (answers.dimension A.action)) (get_or A.action.matrices x []) ++ behind) ++ lines
     lines_are =
         (λ i. map (row_line (dimension i)) (sym here i) ++ (behind ++ lines))
@@ -222,12 +242,12 @@ fill_body A writable =
     let whole : Draft = record with_images { matrices = A.action.matrices } in
     let last : FillAll whole (places.end ∷ []) (codes "end" ∷ []) whole = one the_end places.none in
     let matrices : FillAll with_images (matrix_places n (length A.names) ++ places.end ∷ []) (matrix_lines A (length A.names) ++ codes "end" ∷ []) whole =
-        subst (λ k. FillAll with_images (matrix_places n k ++ places.end ∷ []) (matrix_lines A k ++ codes "end" ∷ []) whole) writable.form.one_matrix_each
-        (subst (λ ls. FillAll with_images (matrix_places n (length A.action.matrices) ++ places.end ∷ []) (ls ++ codes "end" ∷ []) whole) (matrix_lines-all A (length A.action.matrices))
-        (fill_matrices A with_images [] A.action.matrices writable refl refl refl refl last)) in
+    subst (λ k. FillAll with_images (matrix_places n k ++ places.end ∷ []) (matrix_lines A k ++ codes "end" ∷ []) whole) writable.form.one_matrix_each
+    (subst (λ ls. FillAll with_images (matrix_places n (length A.action.matrices) ++ places.end ∷ []) (ls ++ codes "end" ∷ []) whole) (matrix_lines-all A (length A.action.matrices))
+    (fill_matrices A with_images [] A.action.matrices writable refl refl refl refl last)) in
     let images : FillAll with_words (replicate A.generators places.image ++ (matrix_places n (length A.names) ++ places.end ∷ [])) (map (image_line n) A.action.images ++ (matrix_lines A (length A.names) ++ codes "end" ∷ [])) whole =
-        subst (λ k. FillAll with_words (replicate k places.image ++ (matrix_places n (length A.names) ++ places.end ∷ [])) (map (image_line n) A.action.images ++ (matrix_lines A (length A.names) ++ codes "end" ∷ [])) whole)
-        writable.form.one_image_each (fill_images with_words A.action.images writable.form.images matrices) in
+    subst (λ k. FillAll with_words (replicate k places.image ++ (matrix_places n (length A.names) ++ places.end ∷ [])) (map (image_line n) A.action.images ++ (matrix_lines A (length A.names) ++ codes "end" ∷ [])) whole)
+    writable.form.one_image_each (fill_images with_words A.action.images writable.form.images matrices) in
     fill_words start A.action.basis (addable A writable start [] A.action.basis refl refl refl refl) images
 
 fill_body_alone : (A : Answer) → IsWritable A → FillAll (head_draft A) (body_places (head_draft A) ++ []) (basis_lines A ++ (image_lines A ++ (matrix_lines A (length A.names) ++ codes "end" ∷ []))) (draft_of A)

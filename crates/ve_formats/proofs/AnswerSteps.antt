@@ -155,7 +155,7 @@ pub body_of_body : (draft : Draft) → All IsOfBody (places.body_places draft)
 body_of_body draft =
     let n = length draft.names in
     let closing : All IsOfBody (places.matrix_places draft.dimension n ++ places.end ∷ []) =
-        All-append IsOfBody (places.matrix_places draft.dimension n) (places.end ∷ []) (matrix_places_of_body draft.dimension n) (All-cons IsOfBody places.end [] tt (All-nil IsOfBody)) in
+    All-append IsOfBody (places.matrix_places draft.dimension n) (places.end ∷ []) (matrix_places_of_body draft.dimension n) (All-cons IsOfBody places.end [] tt (All-nil IsOfBody)) in
     All-append IsOfBody (replicate draft.dimension places.word) _ (All-replicate IsOfBody draft.dimension places.word tt)
     (All-append IsOfBody (replicate draft.generators places.image) _ (All-replicate IsOfBody draft.generators places.image tt) closing)
 

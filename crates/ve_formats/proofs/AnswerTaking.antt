@@ -155,10 +155,10 @@ matrices_taken (suc n) draft done {left} {lines} {last} fill =
     let named = letter_filled first.fills in
     let name : named.0 ≡ get_or draft.names (length done) [] = sym (get_or_from_slice_get draft.names (length done) named.0 [] named.1) in
     let split : (replicate draft.dimension places.row ++ matrix_places draft.dimension n) ++ left ≡ replicate draft.dimension places.row ++ (matrix_places draft.dimension n ++ left) =
-        append_assoc (replicate draft.dimension places.row) (matrix_places draft.dimension n) left in
+    append_assoc (replicate draft.dimension places.row) (matrix_places draft.dimension n) left in
     let rows = rows_taken draft.dimension draft done []
-        (subst (λ ps. FillAll (record draft { matrices = done ++ [] ∷ [] }) ps first.behind last) split
-        (subst (λ d. FillAll d ((replicate draft.dimension places.row ++ matrix_places draft.dimension n) ++ left) first.behind last) named.3 first.rest)) in
+    (subst (λ ps. FillAll (record draft { matrices = done ++ [] ∷ [] }) ps first.behind last) split
+    (subst (λ d. FillAll d ((replicate draft.dimension places.row ++ matrix_places draft.dimension n) ++ left) first.behind last) named.3 first.rest)) in
     let more = matrices_taken n draft (done ++ rows.rows ∷ []) rows.rest in
     let further : length (done ++ rows.rows ∷ []) ≡ suc (length done) = length_push done rows.rows ∙ omega arith in
     record {
@@ -178,10 +178,10 @@ unfolding matrices_from letters_from letter_lines
 matrices_from-letters A d done [] size is = refl
 matrices_from-letters A d done (matrix ∷ more) size is =
     let here : get_or A.action.matrices (length done) [] ≡ matrix =
-        ap (λ ms. get_or ms (length done) []) is ∙ ap (λ k. get_or (done ++ matrix ∷ more) k []) (add-zero-sym (length done)) ∙ get_or-append-add done (matrix ∷ more) 0 [] in
+    ap (λ ms. get_or ms (length done) []) is ∙ ap (λ k. get_or (done ++ matrix ∷ more) k []) (add-zero-sym (length done)) ∙ get_or-append-add done (matrix ∷ more) 0 [] in
     let further : length (done ++ matrix ∷ []) ≡ suc (length done) = length_push done matrix ∙ omega arith in
     let rest : matrices_from A.names d (suc (length done)) more ≡ letters_from A (suc (length done)) (length more) =
-        subst (λ x. matrices_from A.names d x more ≡ letters_from A x (length more)) further (matrices_from-letters A d (done ++ matrix ∷ []) more size (is ∙ sym (append_assoc done (matrix ∷ []) more))) in
+    subst (λ x. matrices_from A.names d x more ≡ letters_from A x (length more)) further (matrices_from-letters A d (done ++ matrix ∷ []) more size (is ∙ sym (append_assoc done (matrix ∷ []) more))) in
     λ i. ((codes "letter " ++ get_or A.names (length done) []) ∷ map (row_line (size i)) (sym here i)) ++ rest i
   where
     add-zero-sym : (n : ℕ) → n ≡ n + 0
@@ -199,7 +199,7 @@ unfolding start letters
 good_word basis _ (a_generator i less) = (less, All-nil (λ x. x < length _))
 good_word {draft} basis _ (a_child v x found less) =
     let old : (start v < draft.generators) × All (λ y. y < length draft.names) (letters v) =
-        subst (λ (u : Word). (start u < draft.generators) × All (λ y. y < length draft.names) (letters u)) found.2 (All-get_or (λ (u : Word). (start u < draft.generators) × All (λ y. y < length draft.names) (letters u)) draft.basis found.0 v found.1 basis.words) in
+    subst (λ (u : Word). (start u < draft.generators) × All (λ y. y < length draft.names) (letters u)) found.2 (All-get_or (λ (u : Word). (start u < draft.generators) × All (λ y. y < length draft.names) (letters u)) draft.basis found.0 v found.1 basis.words) in
     (old.0, All-append (λ y. y < length draft.names) (letters v) (x ∷ []) old.1 (All-cons (λ y. y < length draft.names) x [] less (All-nil (λ y. y < length draft.names))))
 
 grown_by : {draft : Draft} → IsBasis draft → (w : Word) → Grows draft w → IsGrown (draft.basis ++ w ∷ [])
@@ -212,10 +212,10 @@ distinct_more ws w distinct fresh i j d less inside same =
     elim (cases_lt j (length ws)) [
       | inl below ↦ distinct i j d less below (sym (get_or_append_left ws (w ∷ []) d i (omega (arith, less, below))) ∙ same ∙ get_or_append_left ws (w ∷ []) d j below)
       | inr above ↦
-        let place : j ≡ length ws + 0 = omega (arith, inside, length_push ws w) in
-        let within : i < length ws = omega (arith, less, place) in
-        let last : get_or (ws ++ w ∷ []) j d ≡ w = ap (λ k. get_or (ws ++ w ∷ []) k d) place ∙ get_or-append-add ws (w ∷ []) 0 d in
-        fresh (i, within, get_or_default ws i w d within ∙ sym (get_or_append_left ws (w ∷ []) d i within) ∙ same ∙ last)
+          let place : j ≡ length ws + 0 = omega (arith, inside, length_push ws w) in
+          let within : i < length ws = omega (arith, less, place) in
+          let last : get_or (ws ++ w ∷ []) j d ≡ w = ap (λ k. get_or (ws ++ w ∷ []) k d) place ∙ get_or-append-add ws (w ∷ []) 0 d in
+          fresh (i, within, get_or_default ws i w d within ∙ sym (get_or_append_left ws (w ∷ []) d i within) ∙ same ∙ last)
     ]
 
 basis_by : (draft : Draft) (ws : List Word) → IsBasis draft → AreAddable draft ws → IsBasis (record draft { basis = draft.basis ++ ws })
@@ -273,10 +273,10 @@ module _ (p : ℕ) (names : List (List ℕ)) (s k d : ℕ) (field : IsFieldPrime
       let closing : M.behind ≡ codes "end" ∷ [] = E.are ∙ (λ i. ended.0 i ∷ over.0 i) in
       let size : d ≡ length W.words = sym W.count in
       let matrices : matrices_from names d 0 M.matrices ≡ matrix_lines A (length names) =
-          matrices_from-letters A d [] M.matrices size refl ∙ ap (letters_from A 0) M.count ∙ matrix_lines-all A (length names) in
+      matrices_from-letters A d [] M.matrices size refl ∙ ap (letters_from A 0) M.count ∙ matrix_lines-all A (length names) in
       let body : lines ≡ map (λ w. codes "basis " ++ word_text names w) W.words ++ (map (image_line (length W.words)) I.rows ++ (matrix_lines A (length names) ++ codes "end" ∷ [])) =
-          W.are ∙ ap (λ ls. map (λ w. codes "basis " ++ word_text names w) W.words ++ ls)
-          (I.are ∙ (λ i. map (image_line (size i)) I.rows ++ (M.are ∙ (λ j. matrices j ++ closing j)) i)) in
+      W.are ∙ ap (λ ls. map (λ w. codes "basis " ++ word_text names w) W.words ++ ls)
+      (I.are ∙ (λ i. map (image_line (size i)) I.rows ++ (M.are ∙ (λ j. matrices j ++ closing j)) i)) in
       let good : IsBasis with_words = basis_by start W.words nothing_yet W.may in
       let writable : IsWritable A = record {
         prime = field;
