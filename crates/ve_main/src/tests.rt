@@ -33,10 +33,7 @@ const ANSWERED: [(&str, &str); 12] = [
         "venum 1\nprime 5\nletter x\nmodule 2\nrelation x = 1\nsub e2 = 3*e1\nend\n",
         "venum-answer 1\nprime 5\nletters x\nmodule 2\nclosed 1\ndimension 1\nbasis e1\nimage 1\nimage 3\nletter x\nrow 1\nend\n",
     ),
-    (
-        TRIANGLE,
-        TRIANGLE_ANSWER,
-    ),
+    (TRIANGLE, TRIANGLE_ANSWER),
     (
         FIELD_OF_FOUR,
         "venum-answer 1\nprime 2\nletters x\nmodule 1\nclosed 3\ndimension 2\nbasis e1\nbasis e1*x\nimage 1 0\nletter x\nrow 0 1\nrow 1 1\nend\n",
@@ -176,9 +173,11 @@ const LIMITED: [(&[&str], &str, u8, &str); 9] = [
 ];
 
 /// The reflections of the triangle.
-const TRIANGLE: &str = "venum 1\nprime 3\ninvolution a\ninvolution b\nmodule 1\nrelation (a*b)^3 = 1\nsub e1*a = e1\nend\n";
+const TRIANGLE: &str =
+    "venum 1\nprime 3\ninvolution a\ninvolution b\nmodule 1\nrelation (a*b)^3 = 1\nsub e1*a = e1\nend\n";
 
-const TRIANGLE_ANSWER: &str = "venum-answer 1\nprime 3\nletters a b\nmodule 1\nclosed 8\ndimension 3\nbasis e1\nbasis e1*b\nbasis e1*b*a\nimage 1 0 0\nletter a\nrow 1 0 0\nrow 0 0 1\nrow 0 1 0\nletter b\nrow 0 1 0\nrow 1 0 0\nrow 0 0 1\nend\n";
+const TRIANGLE_ANSWER: &str =
+    "venum-answer 1\nprime 3\nletters a b\nmodule 1\nclosed 8\ndimension 3\nbasis e1\nbasis e1*b\nbasis e1*b*a\nimage 1 0 0\nletter a\nrow 1 0 0\nrow 0 0 1\nrow 0 1 0\nletter b\nrow 0 1 0\nrow 1 0 0\nrow 0 0 1\nend\n";
 
 /// Points, node and prime, and how `make` ends.
 const MADE: [(&str, &str, &str, u8, &str, &str); 5] = [
@@ -429,7 +428,10 @@ fn hashes(alloc: Global, length: usize) -> Result<Vec<u8>, Memory> {
 fn answers(rt: HostRuntime) -> Result<(), Fail> {
     for (text, answer) in &ANSWERED {
         for command in ["alone", "shared"] {
-            assert!(rt; run_on(rt.alloc(), command, text)?.is(0, answer, ""), "{text}");
+            assert!(rt;
+                run_on(rt.alloc(), command, text)?.is(0, answer, ""),
+                "{text}"
+            );
         }
     }
     Ok(())
@@ -578,12 +580,7 @@ fn inputs_that_fail(rt: HostRuntime) -> Result<(), Fail> {
 fn error_outputs_that_fail(rt: HostRuntime) -> Result<(), Fail> {
     let alloc = rt.alloc();
     let failing = Failing { err: 1, ..SOUND };
-    let left = run(
-        alloc,
-        &["venum", "alone"],
-        bytes(alloc, "")?,
-        failing,
-    )?;
+    let left = run(alloc, &["venum", "alone"], bytes(alloc, "")?, failing)?;
     assert!(rt; left.is(3, "", ""));
     Ok(())
 }

@@ -1,15 +1,13 @@
 //! The texts of the commands.
 
-ghost use Rattle.std.specs.Prelude.{◌≡◌, ◌≤◌, IfErr, IfOk};
-ghost use Rattle.ve_levels.specs.Advancing.{most_limit};
-ghost use Rattle.ve_make.specs.Symmetric.{IsMade};
-ghost use Rattle.ve_main.specs.Commands.{Enumerates, Shows, ShowsMade};
-ghost use Rattle.ve_main.specs.Ending.{StopsMaking, StopsWriting, WritesText};
-ghost use Rattle.ve_port.specs.Writing.{Writes};
-ghost use Rattle.ve_matrix.specs.Answers.{IsAnswerValue, answer_of};
+ghost use Rattle.std.specs.Prelude.{◌≤◌, cond, IfErr, IfOk};
 ghost use Rattle.ve_formats.specs.AnswerText.{answer_text};
 ghost use Rattle.ve_formats.specs.SummaryText.{summary_text};
-ghost use Rattle.std.specs.Prelude.{cond};
+ghost use Rattle.ve_port.specs.Writing.{Writes};
+ghost use Rattle.ve_levels.specs.Advancing.{most_limit};
+ghost use Rattle.ve_matrix.specs.Answers.{IsAnswerValue, answer_of};
+ghost use Rattle.ve_main.specs.Commands.{Enumerates, Shows, ShowsMade};
+ghost use Rattle.ve_main.specs.Ending.{StopsMaking, StopsWriting, WritesText};
 
 use crate::enumeration::{Ended, enumerate};
 use crate::stop::Stop;
@@ -39,7 +37,6 @@ pub(crate) fn write_enumeration<K: Sink>(
     ensures written { IfOk result (WritesText (Enumerates presentation.presentation limit summary) (K.output out.old) (K.output out.new)) }
     ensures stopped { IfErr result (StopsWriting (Enumerates presentation.presentation limit summary) (K.output out.old) (K.output out.new)) }
 {
-    presentation.field();
     match enumerate(alloc, presentation, limit) {
         Ended::Closed(finished) => {
             let answer = Answer::of(alloc, &finished)?;

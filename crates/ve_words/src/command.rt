@@ -2,7 +2,10 @@
 #[derive(Clone, Copy, Debug, PartialEq, Eq)]
 pub enum Command {
     /// Work out the answer of a presentation, on one thread, with tables of at most `limit` vectors. Write it, or its summary.
-    Alone { limit: u32, summary: bool },
+    Alone {
+        limit: u32,
+        summary: bool,
+    },
     /// The same, on `workers` threads.
     Shared {
         workers: u32,
@@ -14,5 +17,9 @@ pub enum Command {
     /// Check an answer against a presentation.
     Check,
     /// Write the presentation of a symmetric group and of its module on sets of points.
-    Make { points: u64, node: u64, prime: u64 },
+    Make {
+        points: u64,
+        node: u64,
+        prime: u64,
+    },
 }

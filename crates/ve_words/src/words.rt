@@ -9,7 +9,9 @@ use std::alloc::Global;
 
 /// The greatest limit, number of threads and number of a presentation that is made.
 const MOST_LIMIT: u64 = 1_000_000;
+
 const MOST_WORKERS: u64 = 64;
+
 const MOST_NUMBER: u64 = 1000;
 
 /// The command that the words of a command line mean. The first of them is the program's name, the second the command's; what
