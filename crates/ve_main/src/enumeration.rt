@@ -28,8 +28,7 @@ pub(crate) fn enumerate(alloc: Global, presentation: Presentation, limit: u32) -
     ensures { EndsIn presentation limit result }
 {
     reaches_are_bounded();
-    // A presentation is valid.
-    let _field = presentation.field();
+    presentation.is_valid();
     let mut table = match start(alloc, presentation, limit) {
         Opened::Open(table) => table,
         Opened::Over { size } => return Ended::Over { level: 0, size },

@@ -10,16 +10,6 @@ returns-in-Over c = outgrown_start c.args.presentation c.args.limit c.in-Over.si
 pub levels-init : goal.levels-init
 levels-init c = first_level c.args.presentation c.args.limit c.in-Open.table c.in-Open.ensures.0 c.in-Open.ensures.1
 
-pub advance-requires-clause-level : goal.advance-requires-clause-level
-advance-requires-clause-level c =
-    let P = c.args.presentation.presentation in
-    let reached = reached_level P c.field.ensures.valid.presentation (c.reaches_are_bounded.ensures P c.field.ensures.valid.presentation) c.args.limit c.levels.table.level
-    (c.levels.invariant.fits c.levels.table.level (omega arith)) c.levels.invariant.open_before in
-    subst (λ k. k < submodule_bound c.in-Ok.finished.draft.presentation + greatest_step c.in-Ok.finished.draft.presentation * c.args.limit + relator_bound c.in-Ok.finished.draft.presentation)
-    (sym c.in-Ok.ensures.finished.level)
-    (subst (λ d. c.levels.table.level < submodule_bound d.presentation + greatest_step d.presentation * c.args.limit + relator_bound d.presentation)
-    (sym (c.in-Ok.ensures.finished.draft ∙ c.levels.invariant.same)) reached)
-
 pub advance-requires-clause-fits : goal.advance-requires-clause-fits
 advance-requires-clause-fits c =
     subst (λ k. FitsLimit c.in-Ok.finished.draft.presentation c.args.limit k) (sym c.in-Ok.ensures.finished.level)
@@ -40,7 +30,7 @@ returns-in-Over-advance c =
 pub levels-smaller : goal.levels-smaller
 levels-smaller c =
     let P = c.args.presentation.presentation in
-    let reached = reached_level P c.field.ensures.valid.presentation (c.reaches_are_bounded.ensures P c.field.ensures.valid.presentation) c.args.limit c.levels.table.level
+    let reached = reached_level P c.is_valid.ensures.valid.presentation (c.reaches_are_bounded.ensures P c.is_valid.ensures.valid.presentation) c.args.limit c.levels.table.level
     (c.levels.invariant.fits c.levels.table.level (omega arith)) c.levels.invariant.open_before in
     let above : c.in-Next.next.level ≡ c.in-Ok.finished.level + 1 = c.in-Next.ensures.level in
     let same : c.in-Ok.finished.level ≡ c.levels.table.level = c.in-Ok.ensures.finished.level in
