@@ -1,7 +1,7 @@
 -- Rows given to ids. From live ids they go on to the dead ones, so that each id has the row of what stands for it: combinations of
 -- ids then have the rows of their resolved forms, and forwardings have none.
 use Rattle.std.proofs.Common.{◌≡◌, ◌≢◌, ℕ, zero, suc, ◌+◌, ◌-◌, ◌<◌, ◌≤◌, ◌⊎◌, inl, inr, cond, nat_eq, Some, None, [], length, All, refl, sym, ap, subst, ◌∙◌, arith, eq-eqb}
-use Rattle.std.specs.Prelude.{Option, slice_get, slice_index_or}
+use Rattle.std.specs.Prelude.{slice_get, slice_index_or}
 use Rattle.std.proofs.lemmas.Bool.{cond-true, cond-false, ne_eqb, cases_eq}
 use Rattle.std.proofs.lemmas.Option.{slice_get_within}
 use Rattle.std.proofs.lemmas.List.Elements.{All-weaker}
@@ -10,20 +10,7 @@ use Rattle.ve_theory.specs.Answers.{Row}
 use Rattle.ve_theory.proofs.Sums.{SameWeights, SameWeights-refl, SameWeights-sym, SameWeights-trans, SameWeights-extended, SameWeights-extended_by, SameWeights_of, extended-unit, extended-extended, extended-difference, extended_vanishes, difference_vanishes, same_from_difference}
 use Rattle.ve_theory.proofs.Remainders.{All-extended, All-unit}
 use Rattle.ve_machine.specs.Forwards.{Forwards, stand_in, AreLive, IsForwarding, IsResolved}
-use Rattle.ve_machine.proofs.Forwardings.{live_stands, dead_stands, past_stands, less, forwarding_shown}
-
--- what holds of the id alone, and of each forward, holds of what stands for it
-pub stands_by : (Q : Row → Type 0) (forwards : Forwards) (b : ℕ) → Q (unit b) → ((f : Row) → slice_get forwards b ≡ Some (Some f) → Q f) → Q (stand_in forwards b)
-stands_by Q forwards b itself forward = cases (slice_get forwards b) refl
-  where
-    cases : (o : Option (Option Row)) → slice_get forwards b ≡ o → Q (stand_in forwards b)
-    cases None is = subst Q (sym (past_stands forwards b is)) itself
-    cases (Some None) is = subst Q (sym (live_stands forwards b is)) itself
-    cases (Some (Some f)) is = subst Q (sym (dead_stands forwards b f is)) (forward f is)
-
--- a forward has lower ids alone
-abbrev pub AreFalling : Forwards → Type 0
-AreFalling forwards = (b : ℕ) (f : Row) → slice_get forwards b ≡ Some (Some f) → All (λ t. t.0 < b) f
+use Rattle.ve_machine.proofs.Forwardings.{live_stands, dead_stands, AreFalling, stands_below, stands_by, less, forwarding_shown}
 
 -- what vanishes for each id less what stands for it vanishes for forwardings
 pub forwarding_vanishes : (p : ℕ) (forwards : Forwards) (rows : ℕ → Row) (v : Row) → 0 < p → ((b : ℕ) → SameWeights p (rows b) (extended rows (stand_in forwards b)))
@@ -113,12 +100,6 @@ module _ (p : ℕ) (forwards : Forwards) (own : ℕ → Row) where
     carried_resolved n v w within resolved = SameWeights-trans (carried_same n v w within resolved.forwarding) (carried_alive n w resolved.live)
 
 -- resolved ids
-
--- no id of it is above the id
-stands_below : (forwards : Forwards) → AreFalling forwards → (m : ℕ) → All (λ t. t.0 ≤ m) (stand_in forwards m)
-stands_below forwards falling m =
-    stands_by (λ v. All (λ (t : ℕ × ℕ). t.0 ≤ m) v) forwards m (All-unit (λ c. c ≤ m) m (omega arith))
-    (λ f is. All-weaker (λ (t : ℕ × ℕ). t.0 < m) (λ (t : ℕ × ℕ). t.0 ≤ m) (λ t below. omega arith) f (falling m f is))
 
 pub carried_below : (forwards : Forwards) → AreFalling forwards → (n b : ℕ) → All (λ t. t.0 ≤ b) (carried forwards unit n b)
 unfolding carried

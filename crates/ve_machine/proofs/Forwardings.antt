@@ -32,20 +32,27 @@ past_stands forwards b past = stand_in_of forwards b None past
 pub positive_prime : (T : ActionTable) → IsSound T → 0 < (presented T).prime
 positive_prime T sound = omega (arith, prime-large (presented T).prime sound.valid.presentation.field)
 
--- what holds of the id and of the ids of its forward holds of what stands for it
-pub stands_all : (Q : ℕ → Type 0) (forwards : Forwards) (b : ℕ) → Q b → ((f : Row) → slice_get forwards b ≡ Some (Some f) → All (λ t. Q t.0) f) → All (λ t. Q t.0) (stand_in forwards b)
-stands_all Q forwards b itself forward = cases (slice_get forwards b) refl
+-- what holds of the id alone, and of its forward, holds of what stands for it
+pub stands_by : (Q : Row → Type 0) (forwards : Forwards) (b : ℕ) → Q (unit b) → ((f : Row) → slice_get forwards b ≡ Some (Some f) → Q f) → Q (stand_in forwards b)
+stands_by Q forwards b itself forward = cases (slice_get forwards b) refl
   where
-    cases : (o : Option (Option Row)) → slice_get forwards b ≡ o → All (λ t. Q t.0) (stand_in forwards b)
-    cases None is = subst (λ v. All (λ t. Q t.0) v) (sym (past_stands forwards b is)) (All-unit Q b itself)
-    cases (Some None) is = subst (λ v. All (λ t. Q t.0) v) (sym (live_stands forwards b is)) (All-unit Q b itself)
-    cases (Some (Some f)) is = subst (λ v. All (λ t. Q t.0) v) (sym (dead_stands forwards b f is)) (forward f is)
+    cases : (o : Option (Option Row)) → slice_get forwards b ≡ o → Q (stand_in forwards b)
+    cases None is = subst Q (sym (past_stands forwards b is)) itself
+    cases (Some None) is = subst Q (sym (live_stands forwards b is)) itself
+    cases (Some (Some f)) is = subst Q (sym (dead_stands forwards b f is)) (forward f is)
+
+-- a forward has lower ids alone
+abbrev pub AreFalling : Forwards → Type 0
+AreFalling forwards = (b : ℕ) (f : Row) → slice_get forwards b ≡ Some (Some f) → All (λ t. t.0 < b) f
+
+pub are_falling : (T : ActionTable) → IsSound T → AreFalling T.forwards
+are_falling T sound b f is = (sound.forwards b f is).below
 
 -- no id of it is above b
-pub stands_below : (T : ActionTable) → IsSound T → (b : ℕ) → All (λ t. t.0 ≤ b) (stand_in T.forwards b)
-stands_below T sound b =
-    stands_all (λ n. n ≤ b) T.forwards b (omega arith)
-    (λ f is. All-weaker (λ (t : ℕ × ℕ). t.0 < b) (λ (t : ℕ × ℕ). t.0 ≤ b) (λ t below. omega arith) f (sound.forwards b f is).below)
+pub stands_below : (forwards : Forwards) → AreFalling forwards → (b : ℕ) → All (λ t. t.0 ≤ b) (stand_in forwards b)
+stands_below forwards falling b =
+    stands_by (λ v. All (λ (t : ℕ × ℕ). t.0 ≤ b) v) forwards b (All-unit (λ c. c ≤ b) b (omega arith))
+    (λ f is. All-weaker (λ (t : ℕ × ℕ). t.0 < b) (λ (t : ℕ × ℕ). t.0 ≤ b) (λ t below. omega (arith, below)) f (falling b f is))
 
 -- a vector of live ids stays as it is
 pub live_unchanged : (p : ℕ) (forwards : Forwards) (v : Row) → AreLive forwards v → SameWeights p v (extended (stand_in forwards) v)

@@ -11,8 +11,8 @@ use Rattle.ve_table.specs.Sound.{IsSound}
 use Rattle.ve_table.specs.Changes.{renumbered}
 use Rattle.ve_machine.specs.Forwards.{stand_in, IsResolved}
 use Rattle.ve_machine.specs.Finished.{IsActionOf, IsPacked}
-use Rattle.ve_machine.proofs.Forwardings.{positive_prime}
-use Rattle.ve_machine.proofs.CarriedRows.{stands_by, forwarding_vanishes}
+use Rattle.ve_machine.proofs.Forwardings.{positive_prime, stands_by}
+use Rattle.ve_machine.proofs.CarriedRows.{forwarding_vanishes}
 use Rattle.ve_machine.proofs.ResolvedVectors.{live_within}
 use Rattle.ve_machine.proofs.LiveActions.{number, renumbered_sum}
 

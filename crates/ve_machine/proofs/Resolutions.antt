@@ -10,7 +10,7 @@ use Rattle.ve_theory.proofs.Remainders.{All-extended, All-unit}
 use Rattle.ve_table.specs.Tables.{ActionTable, presented}
 use Rattle.ve_table.specs.Sound.{IsSound}
 use Rattle.ve_machine.specs.Forwards.{stand_in, AreLive, IsForwarding, IsResolved}
-use Rattle.ve_machine.proofs.Forwardings.{live_stands, dead_stands, stands_below, positive_prime, IsForwarding-alike, nothing_forwarded, forwarded_on, id_less_stand_in, vector_less_replaced}
+use Rattle.ve_machine.proofs.Forwardings.{live_stands, dead_stands, are_falling, stands_below, positive_prime, IsForwarding-alike, nothing_forwarded, forwarded_on, id_less_stand_in, vector_less_replaced}
 use Rattle.ve_machine.proofs.ReducedSums.{reduced_keys, reduced_same, reduced_sum}
 
 module _ (T : ActionTable) (sound : IsSound T) where
@@ -39,7 +39,7 @@ module _ (T : ActionTable) (sound : IsSound T) where
       All-extended (λ k. k ≤ b) (replaced n) (stand_in T.forwards b)
       (All-weaker (λ (t : ℕ × ℕ). t.0 ≤ b) (λ (t : ℕ × ℕ). All (λ (s : ℕ × ℕ). s.0 ≤ b) (replaced n t.0))
       (λ t le. All-weaker (λ (s : ℕ × ℕ). s.0 ≤ t.0) (λ (s : ℕ × ℕ). s.0 ≤ b) (λ s lower. omega (arith, lower, le)) (replaced n t.0) (replaced_below n t.0))
-      (stand_in T.forwards b) (stands_below T sound b))
+      (stand_in T.forwards b) (stands_below T.forwards (are_falling T sound) b))
 
   live_stays : (n b : ℕ) → IsLiveId b → AreLive T.forwards (replaced n b)
   unfolding replaced

@@ -3,7 +3,7 @@ use Rattle.std.proofs.Common.{◌≡◌, ℕ, ◌<◌, ◌≤◌, ◌⊎◌, inl
 use Rattle.std.specs.Prelude.{slice_index_or}
 use Rattle.std.proofs.lemmas.Bool.{cases_lt}
 use Rattle.std.proofs.lemmas.Option.{slice_get_within}
-use Rattle.std.proofs.lemmas.List.Elements.{All-weaker}
+use Rattle.std.proofs.lemmas.List.Elements.{All-head, All-tail, All-weaker}
 use Rattle.ve_theory.specs.Combinations.{Combination, unit, scaled, difference, extended}
 use Rattle.ve_theory.specs.Words.{Word, generator}
 use Rattle.ve_theory.specs.Elements.{Element}
@@ -17,26 +17,23 @@ use Rattle.ve_theory.proofs.OrderedRows.{IsNotAfter-trans}
 use Rattle.ve_table.specs.Tables.{ActionTable, presented, word_at, element_of, IsLive}
 use Rattle.ve_table.specs.Sound.{IsSound, IsVectorOf}
 use Rattle.ve_machine.specs.Forwards.{stand_in, AreLive, IsForwarding, IsResolved}
-use Rattle.ve_machine.proofs.Forwardings.{positive_prime, less, forwarding_shown}
+use Rattle.ve_machine.proofs.Forwardings.{positive_prime, are_falling, stands_by, less, forwarding_shown}
 use Rattle.ve_machine.proofs.ReducedSums.{reduced_keys}
-use Rattle.ve_machine.proofs.CarriedRows.{AreFalling, stands_by, carried, carried_resolved, carried_below}
+use Rattle.ve_machine.proofs.CarriedRows.{carried, carried_resolved, carried_below}
 
 -- sums of what is derived
 
 pub derived_both : (P : Presentation) (k : ℕ) {u v : Element} → DerivedWithin P k u → DerivedWithin P k v → DerivedWithin P k (u ++ v)
 derived_both P k {u} {v} one other = DerivedWithin-alike P k (SameWeights-append (scaled-one P.prime u) (scaled-one P.prime v)) (DerivedWithin-combined P k 1 1 one other)
 
-pub derived_sum : {K : Type 0} (P : Presentation) (k : ℕ) (f : K → Element) (v : Combination K) → ((j : K) → DerivedWithin P k (f j)) → DerivedWithin P k (extended f v)
+pub derived_sum : {K : Type 0} (P : Presentation) (k : ℕ) (f : K → Element) (v : Combination K) → All (λ t. DerivedWithin P k (f t.0)) v → DerivedWithin P k (extended f v)
 unfolding extended
-derived_sum P k f [] each = DerivedWithin-nothing P k
-derived_sum P k f (t ∷ v) each =
+derived_sum P k f [] all = DerivedWithin-nothing P k
+derived_sum {K} P k f (t ∷ v) all =
     DerivedWithin-alike P k (SameWeights-append (SameWeights-refl P.prime (scaled t.1 (f t.0))) (scaled-one P.prime (extended f v)))
-    (DerivedWithin-combined P k t.1 1 (each t.0) (derived_sum P k f v each))
+    (DerivedWithin-combined P k t.1 1 (All-head (λ (s : K × ℕ). DerivedWithin P k (f s.0)) t v all) (derived_sum P k f v (All-tail (λ (s : K × ℕ). DerivedWithin P k (f s.0)) t v all)))
 
 module _ (T : ActionTable) (sound : IsSound T) where
-  pub are_falling : AreFalling T.forwards
-  are_falling b f is = (sound.forwards b f is).below
-
   -- an id, less what stands for it, is derived
   id_less_stand_in : (b : ℕ) → DerivedWithin (presented T) T.level (difference (presented T).prime (unit (word_at T b)) (element_of T (stand_in T.forwards b)))
   id_less_stand_in b =
@@ -53,7 +50,7 @@ module _ (T : ActionTable) (sound : IsSound T) where
       (SameWeights-trans (SameWeights-sym (extended-extended (presented T).prime (λ j. unit (word_at T j)) (less (presented T).prime T.forwards) forwarding.by))
       (SameWeights-extended (λ j. unit (word_at T j))
       (SameWeights-sym (forwarding_shown (presented T).prime T.forwards v forwarding))))
-      (derived_sum (presented T) T.level (λ b. element_of T (less (presented T).prime T.forwards b)) forwarding.by one)
+      (derived_sum (presented T) T.level (λ b. element_of T (less (presented T).prime T.forwards b)) forwarding.by (λ k t inside. one (slice_index_or forwarding.by k t).0))
     where
       one : (b : ℕ) → DerivedWithin (presented T) T.level (element_of T (difference (presented T).prime (unit b) (stand_in T.forwards b)))
       one b =
@@ -91,14 +88,14 @@ module _ (T : ActionTable) (sound : IsSound T) where
     not_after = reduced_keys (λ j. (j < length T.words) × IsNotAfter (presented T) (word_at T j) u) (presented T).prime w (extended standing v)
         (record {
           reduced = resolved.reduced;
-          alike = Alike_from_weights nat_eq (SameWeights-sym (SameWeights-trans (carried_resolved (presented T).prime T.forwards unit (positive_prime T sound) are_falling (length T.forwards) v w (omega arith) resolved) (extended-by_units (presented T).prime w)));
+          alike = Alike_from_weights nat_eq (SameWeights-sym (SameWeights-trans (carried_resolved (presented T).prime T.forwards unit (positive_prime T sound) (are_falling T sound) (length T.forwards) v w (omega arith) resolved) (extended-by_units (presented T).prime w)));
         })
         (All-extended (λ j. (j < length T.words) × IsNotAfter (presented T) (word_at T j) u) standing v
         (λ k d lt.
         let b = (slice_index_or v k d).0 in
         All-weaker (λ (t : ℕ × ℕ). t.0 ≤ b) (λ (t : ℕ × ℕ). (t.0 < length T.words) × IsNotAfter (presented T) (word_at T t.0) u)
         (λ t le. lower_not_after u t.0 b le (is.not_after k d lt)) (carried T.forwards unit (length T.forwards) b)
-        (carried_below T.forwards are_falling (length T.forwards) b)));
+        (carried_below T.forwards (are_falling T sound) (length T.forwards) b)));
   }
     where
       standing : ℕ → Row

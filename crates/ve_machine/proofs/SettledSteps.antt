@@ -21,9 +21,8 @@ use Rattle.ve_machine.specs.Known.{Known, by_row, by_image, multiplied}
 use Rattle.ve_machine.specs.Jobs.{IsKnownBelow, by_lower, IsImageJob, IsSettled, image_value}
 use Rattle.ve_machine.specs.Jobs as Jobs
 use Rattle.ve_machine.specs.Finished.{IsActionOf}
-use Rattle.ve_machine.proofs.Forwardings.{positive_prime, dead_stands}
-use Rattle.ve_machine.proofs.CarriedRows.{carried, carried_live, carried_stands, carried_forwarding, carried_same, carried_resolved, forwarding_vanishes, stands_by}
-use Rattle.ve_machine.proofs.ResolvedVectors.{are_falling}
+use Rattle.ve_machine.proofs.Forwardings.{positive_prime, dead_stands, are_falling, stands_by}
+use Rattle.ve_machine.proofs.CarriedRows.{carried, carried_live, carried_stands, carried_forwarding, carried_same, carried_resolved, forwarding_vanishes}
 use Rattle.ve_machine.proofs.LiveActions.{number, renumbered_sum}
 
 -- an id, in the new numbers of live ids; a combination of ids

@@ -14,7 +14,7 @@ use Rattle.ve_table.specs.Tables.{ActionTable, presented, word_at, element_of, I
 use Rattle.ve_table.specs.Sound.{IsForwardOf, HasLiveIds}
 use Rattle.ve_machine.specs.Forwards.{IsDrawnFrom}
 use Rattle.ve_settle.proofs.Derived.{DerivedWithin-scaled}
-use Rattle.ve_settle.proofs.Vectors.{reduced_keys}
+use Rattle.ve_machine.proofs.ReducedSums.{reduced_keys}
 
 -- c is taken from p, and the inverse of the rest is i
 module _ (m c rest i : ℕ) (whole : c + rest ≡ suc m) (inverse : Congruent (suc m) (rest * i) 1) where

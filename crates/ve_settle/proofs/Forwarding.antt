@@ -7,21 +7,7 @@ use Rattle.ve_theory.proofs.Sums.{weigh, weigh-append, weigh-scaled, weigh-unit,
 use Rattle.ve_theory.proofs.Independence.{congruent_by}
 use Rattle.ve_theory.proofs.DerivedElements.{SameWeights-equal}
 use Rattle.ve_machine.specs.Forwards.{Forwards, stand_in, IsForwarding}
-
--- an id less what stands for it
-abbrev less : ℕ → Forwards → ℕ → Row
-less p forwards b = difference p (unit b) (stand_in forwards b)
-
-shown : (p : ℕ) (forwards : Forwards) (v : Row) (forwarding : IsForwarding p forwards v) → SameWeights p v (extended (less p forwards) forwarding.by)
-shown p forwards v forwarding = weights_from_Alike nat_eq Decides-nat_eq p v (extended (less p forwards) forwarding.by) forwarding.sum
-
-pub IsForwarding-by : (p : ℕ) (forwards : Forwards) (v by : Row) → SameWeights p v (extended (less p forwards) by) → IsForwarding p forwards v
-IsForwarding-by p forwards v by same = record { by = by; sum = Alike_from_weights nat_eq same }
-
--- a vector less itself
-pub nothing_forwarded : (p : ℕ) (forwards : Forwards) (v w : Row) → 0 < p → SameWeights p v w → IsForwarding p forwards (difference p v w)
-unfolding extended
-nothing_forwarded p forwards v w positive same = IsForwarding-by p forwards (difference p v w) [] (difference_vanishes p v w positive same)
+use Rattle.ve_machine.proofs.Forwardings.{less, forwarding_shown, IsForwarding-by}
 
 -- a term goes from what is left to what is done
 pub done_live : (p : ℕ) (forwards : Forwards) (v done new left rest : Row) (i c : ℕ) → SameWeights p left ((i, c) ∷ rest) → SameWeights p new (done ++ scaled c (unit i))
@@ -29,7 +15,7 @@ pub done_live : (p : ℕ) (forwards : Forwards) (v done new left rest : Row) (i 
 unfolding weigh scaled
 done_live p forwards v done new left rest i c left_is new_is forwarding =
     IsForwarding-by p forwards (difference p v (new ++ rest)) forwarding.by
-    (SameWeights-trans (SameWeights-difference (SameWeights-refl p v) moved) (shown p forwards (difference p v (done ++ left)) forwarding))
+    (SameWeights-trans (SameWeights-difference (SameWeights-refl p v) moved) (forwarding_shown p forwards (difference p v (done ++ left)) forwarding))
   where
     moved : SameWeights p (new ++ rest) (done ++ left)
     moved =
@@ -50,7 +36,7 @@ done_dead p forwards v done left rest new f i c positive left_is f_is new_is for
     (SameWeights-trans replaced
     (SameWeights-append (SameWeights-refl p (scaled c (less p forwards i)))
     (SameWeights-trans (SameWeights-difference (SameWeights-refl p v) (SameWeights-append (SameWeights-refl p done) (SameWeights-sym left_is)))
-    (shown p forwards (difference p v (done ++ left)) forwarding)))))
+    (forwarding_shown p forwards (difference p v (done ++ left)) forwarding)))))
   where
     replaced : SameWeights p (difference p v (done ++ (rest ++ scaled c f))) (scaled c (less p forwards i) ++ difference p v (done ++ (i, c) ∷ rest))
     replaced = record {

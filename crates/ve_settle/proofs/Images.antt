@@ -22,10 +22,11 @@ use Rattle.ve_vec.specs.Tracing.{row_or_zero}
 use Rattle.ve_table.specs.Tables.{ActionTable, presented, word_at, row_at, element_of, on_words, IsDue}
 use Rattle.ve_table.specs.Sound.{IsSound, IsForwardOf}
 use Rattle.ve_machine.specs.Forwards.{stand_in, image_difference}
-use Rattle.ve_settle.proofs.Vectors.{reduced_keys, reduced_same}
-use Rattle.ve_settle.proofs.Derived.{DerivedWithin-append, DerivedWithin-scaled, DerivedWithin-extended}
+use Rattle.ve_machine.proofs.ReducedSums.{reduced_keys, reduced_same}
+use Rattle.ve_machine.proofs.ResolvedVectors.{derived_both, derived_sum}
+use Rattle.ve_settle.proofs.Derived.{DerivedWithin-scaled}
 use Rattle.ve_settle.proofs.Deleting.{rest_of_prime}
-use Rattle.ve_settle.proofs.Forwards.{positive_prime}
+use Rattle.ve_machine.proofs.Forwardings.{positive_prime}
 use Rattle.ve_settle.proofs.Order.{lower_reach}
 
 -- what is left of p, times w, is p - 1 times c times w
@@ -141,7 +142,7 @@ module _ (T : ActionTable) (sound : IsSound T) (order : IsTotalOrder (presented 
   unfolding products
   products_less_rows =
       DerivedWithin-alike (presented T) T.level (differences-extended (presented T).prime products (λ j. element_of T (rows j)) forward)
-      (DerivedWithin-extended (presented T) T.level (λ j. difference (presented T).prime (products j) (element_of T (rows j))) forward
+      (derived_sum (presented T) T.level (λ j. difference (presented T).prime (products j) (element_of T (rows j))) forward
       (All-weaker (λ (t : ℕ × ℕ). t.0 < dead) (λ (t : ℕ × ℕ). DerivedWithin (presented T) T.level (difference (presented T).prime (products t.0) (element_of T (rows t.0)))) (λ t less. one t.0 less) forward is_forward.below))
     where
       one : (c : ℕ) → c < dead → DerivedWithin (presented T) T.level (difference (presented T).prime (unit (times (word_at T c) x)) (element_of T (rows c)))
@@ -161,11 +162,11 @@ module _ (T : ActionTable) (sound : IsSound T) (order : IsTotalOrder (presented 
       (SameWeights-trans (SameWeights-sym (extended-difference (presented T).prime (λ j. unit (word_at T j)) row (extended rows forward)))
       (SameWeights-extended (λ j. unit (word_at T j))
       (SameWeights-sym (SameWeights-trans (reduced_same (presented T).prime v (image_difference (presented T).prime (row_at T) T.forwards dead x) is) (SameWeights_of image_is))))))
-      (DerivedWithin-append (presented T) T.level
+      (derived_both (presented T) T.level
       (DerivedWithin-alike (presented T) T.level
       (SameWeights-trans (differences-append (presented T).prime (unit (times (word_at T dead) x)) (extended products forward) (extended (λ j. element_of T (rows j)) forward) (positive_prime T sound))
       (SameWeights-difference (SameWeights-refl (presented T).prime (unit (times (word_at T dead) x))) (SameWeights-sym (extended-extended (presented T).prime (λ j. unit (word_at T j)) rows forward))))
-      (DerivedWithin-append (presented T) T.level forward_times products_less_rows))
+      (derived_both (presented T) T.level forward_times products_less_rows))
       (DerivedWithin-scaled (presented T) T.level ((presented T).prime - 1) (sound.rows dead x row row_is).stands.derived))
 
   pub image_row : (v : Row) → IsReducedOf ◌<◌ nat_eq (presented T).prime v (image_difference (presented T).prime (row_at T) T.forwards dead x) → IsRow (presented T).prime (length T.words) v

@@ -3,7 +3,6 @@ pub mod SortedTerms
 pub mod Vectors
 pub mod Derived
 pub mod Deleting
-pub mod Forwards
 pub mod Forwarding
 pub mod Substituting
 pub mod Order

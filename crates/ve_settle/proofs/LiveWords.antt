@@ -14,17 +14,6 @@ use Rattle.ve_machine.specs.Finished.{IsFinishedTable, IsPacked}
 use Rattle.ve_settle.specs.NormalWords.{SettlesTable}
 use Rattle.ve_settle.proofs.Order.{lower_reach}
 
--- where all ids are live, what they have is all
-all_live : {X : Type 0} (fs : List (Option Row)) (xs : List X) → All (λ f. f ≡ None) fs → length fs ≡ length xs → of_live fs xs ≡ xs
-unfolding of_live
-all_live [] [] live same = refl
-all_live [] (x ∷ xs) live same = absurd (omega (arith, same))
-all_live (f ∷ fs) [] live same = absurd (omega (arith, same))
-all_live (f ∷ fs) (x ∷ xs) live same = rw (All-head (λ f. f ≡ None) f fs live) (ap (λ l. x ∷ l) (all_live fs xs (All-tail (λ f. f ≡ None) f fs live) (omega (arith, same))))
-
-pub packed_words : (T : ActionTable) → IsFinishedTable T → IsPacked T → length (live_words T) ≡ length T.words
-packed_words T finished packed = ap length (all_live T.forwards T.words packed finished.sound.one_forward_each)
-
 -- a place of what the live ids have, and the id that has it
 place_of : {X : Type 0} (fs : List (Option Row)) (xs : List X) (b : ℕ) (d : X) → length fs ≡ length xs → slice_get fs b ≡ Some None
     → (k : ℕ) × (k < length (of_live fs xs)) × (get_or (of_live fs xs) k d ≡ get_or xs b d)

@@ -14,8 +14,8 @@ use Rattle.ve_vec.specs.Vectors.{AllIds}
 use Rattle.ve_table.specs.Tables.{ActionTable, presented, word_at, element_of, IsLive}
 use Rattle.ve_table.specs.Sound.{IsSound, HasLiveIds}
 use Rattle.ve_machine.specs.Forwards.{IsResolved}
-use Rattle.ve_settle.proofs.Forwards.{forwarding_derived, positive_prime}
-use Rattle.ve_settle.proofs.Forwarding.{nothing_forwarded}
+use Rattle.ve_machine.proofs.Forwardings.{positive_prime, nothing_forwarded}
+use Rattle.ve_machine.proofs.ResolvedVectors.{live_within}
 
 -- tests of ids
 
@@ -58,8 +58,7 @@ ceiling_falls i old new taken below = omega (arith, ceiling_below i new below, l
 -- the end
 
 pub live_row : (T : ActionTable) → IsSound T → (w : Row) → IsReduced ◌<◌ (presented T).prime w → HasLiveIds T w → IsRow (presented T).prime (length T.words) w
-live_row T sound w reduced live =
-    (reduced, All-weaker (λ (t : ℕ × ℕ). IsLive T t.0) (λ (t : ℕ × ℕ). t.0 < length T.words) (λ t is. subst (λ n. t.0 < n) sound.one_forward_each (slice_get_within T.forwards t.0 None is)) w live)
+live_row T sound w reduced live = (reduced, live_within T sound w live)
 
 pub bounded : (T : ActionTable) → IsSound T → (v w : Row) → ((among : ℕ → Bool) → IsKept T among → AllIds among v → AllIds among w) → (bound : ℕ) → All (λ t. t.0 ≤ bound) v → All (λ t. t.0 ≤ bound) w
 bounded T sound v w kept bound all =
@@ -74,8 +73,3 @@ live_resolved T sound v reduced live = record {
   live = live;
   forwarding = nothing_forwarded (presented T).prime T.forwards v v (positive_prime T sound) (SameWeights-refl (presented T).prime v);
 }
-
-pub resolved_derived : (T : ActionTable) → IsSound T → (v w : Row) → IsResolved (presented T).prime T.forwards v w → DerivedWithin (presented T) T.level (difference (presented T).prime (element_of T v) (element_of T w))
-resolved_derived T sound v w resolved =
-    DerivedWithin-alike (presented T) T.level (extended-difference (presented T).prime (λ j. unit (word_at T j)) v w)
-    (forwarding_derived T sound (difference (presented T).prime v w) resolved.forwarding)

@@ -4,7 +4,7 @@ use Rattle.ve_theory.specs.Combinations.{scaled, extended, IsReducedOf}
 use Rattle.ve_theory.specs.Answers.{Row}
 use Rattle.ve_theory.proofs.Sums.{weigh-append, SameWeights, SameWeights-refl, SameWeights-sym, SameWeights-trans, SameWeights-append, SameWeights_of, Alike_from_weights, extended-append, scaled-one}
 use Rattle.ve_theory.proofs.DerivedElements.{SameWeights-equal}
-use Rattle.ve_settle.proofs.Vectors.{reduced_same}
+use Rattle.ve_machine.proofs.ReducedSums.{reduced_same}
 
 -- a combination of f, one term longer
 module _ (p : ℕ) (f : ℕ → Row) (part next : Row) (i a : ℕ) (next_is : next ≡ part ++ (i, a) ∷ []) where

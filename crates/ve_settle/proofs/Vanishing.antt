@@ -16,7 +16,7 @@ use Rattle.ve_theory.proofs.DerivationTrees.{Within-words}
 use Rattle.ve_theory.proofs.DerivedElements.{DerivedWithin-by}
 use Rattle.ve_table.specs.Tables.{ActionTable, presented, word_at, element_of}
 use Rattle.ve_table.specs.Sound.{IsSound}
-use Rattle.ve_settle.proofs.Derived.{DerivedWithin-extended}
+use Rattle.ve_machine.proofs.ResolvedVectors.{derived_sum}
 
 word_vanishes : (P : Presentation) (k : ℕ) (w : Word) → slice_get (relators P) 0 ≡ Some (unit []) → IsWord P w → reach P w ≤ k → DerivedWithin P k (unit w)
 unfolding value IsDerivation StaysWithin word_times times_all
@@ -29,7 +29,7 @@ word_vanishes P k w one is_word within =
 
 pub vector_vanishes : (T : ActionTable) → IsSound T → slice_get (relators (presented T)) 0 ≡ Some (unit []) → (v : Row) → All (λ t. t.0 < length T.words) v → DerivedWithin (presented T) T.level (element_of T v)
 vector_vanishes T sound one v within =
-    DerivedWithin-extended (presented T) T.level (λ j. unit (word_at T j)) v
+    derived_sum (presented T) T.level (λ j. unit (word_at T j)) v
     (λ k t inside.
     let word = sound.words (slice_index_or v k t).0 (generator 0) (within k t inside) in
     word_vanishes (presented T) T.level (word_at T (slice_index_or v k t).0) one word.0 word.1)

@@ -13,11 +13,9 @@ use Rattle.ve_table.specs.Tables.{ActionTable, presented, word_at, element_of}
 use Rattle.ve_table.specs.Sound.{IsSound, IsVectorOf}
 use Rattle.ve_machine.specs.Forwards.{IsResolved}
 use Rattle.ve_machine.specs.Laws.{ForwardingsAreASpace, ResolutionsExist}
-use Rattle.ve_settle.proofs.Derived.{DerivedWithin-append}
-use Rattle.ve_settle.proofs.Forwards.{positive_prime}
+use Rattle.ve_machine.proofs.ResolvedVectors.{derived_both}
+use Rattle.ve_machine.proofs.Forwardings.{positive_prime}
 use Rattle.ve_settle.proofs.Order.{lower_not_after}
-use Rattle.ve_settle.proofs.Resolving.{resolved_derived}
-use Rattle.ve_settle.proofs.UniqueResolutions.{forwardings_resolve_to_zero, resolutions_are_unique}
 
 -- what holds of the ids of v, and of all lower ids, holds of those of w
 abbrev pub HasNoHigherIds : Row → Row → Type 1
@@ -37,30 +35,9 @@ module _ (T : ActionTable) (sound : IsSound T) (order : IsTotalOrder (presented 
       row = (reduced, lower_ids (λ n. n < length T.words) (λ i j le within. omega (arith, le, within)) old.stands.row.1);
       derived = DerivedWithin-alike (presented T) T.level
           (differences-append (presented T).prime (unit word) (element_of T v) (element_of T w) (positive_prime T sound))
-          (DerivedWithin-append (presented T) T.level old.stands.derived derived);
+          (derived_both (presented T) T.level old.stands.derived derived);
     };
     not_after = lower_ids (λ n. (n < length T.words) × IsNotAfter (presented T) (word_at T n) word)
         (λ i j le fits. (omega (arith, le, fits.0), not_after_trans (word_at T i) (word_at T j) word (lower_not_after T sound order i j le fits.0) fits.1))
         old.not_after;
   }
-
--- the resolved form of a vector has no higher ids
-resolved_ids : ForwardingsAreASpace → ResolutionsExist → (T : ActionTable) → IsSound T → (v w : Row) → IsReduced ◌<◌ (presented T).prime v → All (λ t. t.0 < length T.words) v
-    → IsResolved (presented T).prime T.forwards v w → HasNoHigherIds v w
-unfolding IsReduced
-resolved_ids space exist T sound [] w reduced within resolved Q lower all =
-    let nothing : w ≡ [] = (forwardings_resolve_to_zero space T [] w sound resolved).0 (space (presented T).prime T.forwards (positive_prime T sound)).empty in
-    subst (λ u. All (λ t. Q t.0) u) (sym nothing) (All-nil (λ (t : ℕ × ℕ). Q t.0))
-resolved_ids space exist T sound (t ∷ v) w reduced within resolved Q lower all =
-    let found = exist T (t ∷ v) sound within in
-    let same : found.0 ≡ w = resolutions_are_unique T (t ∷ v) found.0 w sound found.1 resolved in
-    let below : All (λ s. s.0 ≤ t.0) v =
-    All-weaker (λ (s : ℕ × ℕ). s.0 < t.0) (λ (s : ℕ × ℕ). s.0 ≤ t.0) (λ s less. omega (arith, less)) v (All_from_AllBefore ◌<◌ t.0 v reduced.2) in
-    All-weaker (λ (s : ℕ × ℕ). s.0 ≤ t.0) (λ (s : ℕ × ℕ). Q s.0) (λ s le. lower s.0 t.0 le (All-head (λ (s : ℕ × ℕ). Q s.0) t v all)) w
-    (subst (λ u. All (λ s. s.0 ≤ t.0) u) same (found.2 t.0 (All-cons (λ (s : ℕ × ℕ). s.0 ≤ t.0) t v (omega arith) below)))
-
-pub resolutions_keep_words : WordsAreOrdered → ForwardingsAreASpace → ResolutionsExist
-    → (T : ActionTable) (word : Word) (v w : Row) → IsSound T → IsVectorOf T word v → IsResolved (presented T).prime T.forwards v w → IsVectorOf T word w
-resolutions_keep_words orders space exist T word v w sound old resolved =
-    vector_kept T sound (orders (presented T) sound.valid.presentation) word v w old resolved.reduced (resolved_derived T sound v w resolved)
-    (resolved_ids space exist T sound v w old.stands.row.0 old.stands.row.1 resolved)

@@ -110,7 +110,7 @@ impl FallingSum {
         ensures below { All (λ t. t.0 < id) (drop self.new.taken self.new.sorted) }
         ensures ids { (among : ℕ → Bool) → AllIds among (left_of self.old) → AllIds among (left_of self.new) }
     {
-        let _prime = self.field.prime();
+        self.field.has_prime();
         if self.taken == self.sorted.len() {
             return 0;
         }

@@ -10,7 +10,6 @@ mod image;
 mod live;
 mod resolution;
 mod rows;
-mod sound;
 mod substitution;
 mod terms;
 

@@ -2,7 +2,6 @@ ghost use Rattle.std.specs.Prelude.{ℕ, ◌<◌, ◌≤◌, ◌↔◌, All, IfN
 ghost use Rattle.ve_table.specs.Tables.{IsLive};
 ghost use Rattle.ve_table.specs.Sound.{HasLiveIds};
 
-use crate::sound::table_is_sound;
 use ve_table::Table;
 use ve_vec::Sparse;
 
@@ -24,7 +23,7 @@ pub(crate) fn greatest_live_id(table: &Table) -> Option<u32>
     ensures live { IfSome result (λ id. IsLive table.now id × ((b : ℕ) → IsLive table.now b → b ≤ id)) }
     ensures none { IfNone result ((b : ℕ) → ¬ IsLive table.now b) }
 {
-    table_is_sound(table);
+    table.is_sound();
     for id in (0..table.id_count()).rev() {
         if table.is_live(id) {
             return Some(id);

@@ -8,7 +8,6 @@ ghost use Rattle.ve_settle.specs.Settling.{ForwardingsResolveToZero, Resolutions
 
 use crate::falling::FallingSum;
 use crate::live::has_live_ids;
-use crate::sound::table_is_sound;
 use crate::terms::add_term;
 use std::alloc::Global;
 use ve_table::Table;
@@ -25,7 +24,7 @@ pub fn resolve(alloc: Global, table: &Table, vector: &Sparse) -> Result<Sparse, 
     // No id is above all those of the vector.
     ensures ids { IfOk result (λ v. (bound : ℕ) → All (λ t. t.0 ≤ bound) vector.now → All (λ t. t.0 ≤ bound) v) }
 {
-    table_is_sound(table);
+    table.is_sound();
     if has_live_ids(table, vector) {
         let copy = vector.copy()?;
         return Ok(copy);
@@ -69,8 +68,4 @@ pub fn forwardings_resolve_to_zero()
 /// The resolved form of a row, or of an image, can stand in its place.
 pub fn resolutions_keep_words()
     ensures { ResolutionsKeepWords }
-{
-    ve_theory::order::words_are_ordered();
-    ve_machine::forwards::forwardings_are_a_space();
-    ve_machine::forwards::resolutions_exist();
-}
+{}

@@ -7,7 +7,6 @@ ghost use Rattle.ve_settle.specs.Settling.{Rewrites};
 
 use crate::live::has_live_ids;
 use crate::rows::row_of;
-use crate::sound::table_is_sound;
 use crate::terms::add_term;
 use std::alloc::Global;
 use ve_table::Table;
@@ -21,7 +20,7 @@ pub fn rewrite(alloc: Global, table: &mut Table, id: u32, letter: u8) -> Result<
     ensures err { OnErr result (table.new ≡ table.old) }
     ensures sound { IsSound table.new }
 {
-    table_is_sound(table);
+    table.is_sound();
     ve_theory::order::words_are_ordered();
     let row = row_of(table, id, letter);
     if has_live_ids(table, row) {

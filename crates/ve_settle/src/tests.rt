@@ -6,7 +6,6 @@ ghost use Rattle.ve_table.specs.Tables.{presented};
 
 use super::*;
 use crate::live::has_live_ids;
-use crate::sound::table_is_sound;
 use crate::terms::add_term;
 use std::alloc::Global;
 use std::test::Fail;
@@ -151,7 +150,7 @@ fn table_of(alloc: Global, prime: u64, level: u32) -> Result<Table, Fail>
 fn vanishing(alloc: Global, field: Field) -> Result<Presentation, Fail>
     ensures { IfOk result (λ draft. slice_get (relators draft.presentation) 0 ≡ Some (unit [])) }
 {
-    let _prime = field.prime();
+    field.has_prime();
     let mut presentation = Presentation::new(alloc, field);
     presentation.add_letter("x")?;
     let one = FreeAlg::constant(alloc, &field, 1)?;
@@ -181,7 +180,7 @@ fn deletes(
     requires { slice_get (relators (presented table.old)) 0 ≡ Some (unit []) }
     ensures { table.new.draft ≡ table.old.draft }
 {
-    table_is_sound(table);
+    table.is_sound();
     let vector = vector_of(alloc, table, vector)?;
     if !is_row(table, &vector) || !has_live_ids(table, &vector) {
         return Ok(false);
@@ -236,7 +235,7 @@ fn rewrites(
 /// The sum of the terms. Coefficients are taken modulo the prime.
 fn vector_of(alloc: Global, table: &Table, terms: &[(u32, u8)]) -> Result<Sparse, Memory> {
     let field = *table.presentation().field();
-    let _prime = field.prime();
+    field.has_prime();
     let mut sum = Sparse::zero(alloc);
     for (id, coef) in terms {
         let coef = field.reduce(u128::from(*coef));

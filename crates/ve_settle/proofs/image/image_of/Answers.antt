@@ -6,8 +6,9 @@ use Rattle.ve_theory.proofs.Sums.{prime-large, SameWeights-sym, SameWeights-tran
 use Rattle.ve_vec.specs.Tracing.{row_or_zero}
 use Rattle.ve_table.specs.Tables.{presented, row_at}
 use Rattle.ve_machine.specs.Forwards.{stand_in, image_difference}
-use Rattle.ve_settle.proofs.Vectors.{part_more, reduced_same, term_all, term_residue}
-use Rattle.ve_settle.proofs.Forwards.{dead_stands}
+use Rattle.ve_settle.proofs.Vectors.{part_more, term_all, term_residue}
+use Rattle.ve_machine.proofs.ReducedSums.{reduced_same}
+use Rattle.ve_machine.proofs.Forwardings.{dead_stands}
 use Rattle.ve_settle.proofs.Images.{due_below, image_derived, image_row, taken_more}
 use Rattle.ve_settle.proofs.image.image_of.Goals as goal
 
@@ -73,7 +74,7 @@ loop-at-preserved c =
 pub returns-clause-difference : goal.returns-clause-difference
 returns-clause-difference c =
     let dead_is : slice_get c.args.table.now.forwards c.args.dead ≡ Some (Some c.unwrap-forward.result.now) = c.forward.ensures ∙ ap (λ o. Some (option_copied o)) c.unwrap-forward.ensures in
-    let stands : stand_in c.args.table.now.forwards c.args.dead ≡ c.unwrap-forward.result.now = dead_stands c.args.table.now c.args.dead _ dead_is in
+    let stands : stand_in c.args.table.now.forwards c.args.dead ≡ c.unwrap-forward.result.now = dead_stands c.args.table.now.forwards c.args.dead _ dead_is in
     let whole : take c.loop-at.at c.unwrap-forward.result.now ≡ c.unwrap-forward.result.now = take_all _ _ (omega (arith, c.loop-at-test.false, c.len-at-end.ensures)) in
     let image : IsReducedOf ◌<◌ nat_eq (presented c.args.table.now).prime c.loop-at.image (image_difference (presented c.args.table.now).prime (row_at c.args.table.now) c.args.table.now.forwards c.args.dead c.args.letter) =
     record { reduced = c.loop-at.invariant.reduced; alike = Alike_from_weights nat_eq (rw stands (rw whole at c.loop-at.invariant.sum)) } in
@@ -84,7 +85,7 @@ returns-clause-row c =
     let sound = c.presentation.ensures.sound in
     let order = c.words_are_ordered.ensures (presented c.args.table.now) sound.valid.presentation in
     let dead_is : slice_get c.args.table.now.forwards c.args.dead ≡ Some (Some c.unwrap-forward.result.now) = c.forward.ensures ∙ ap (λ o. Some (option_copied o)) c.unwrap-forward.ensures in
-    let stands : stand_in c.args.table.now.forwards c.args.dead ≡ c.unwrap-forward.result.now = dead_stands c.args.table.now c.args.dead _ dead_is in
+    let stands : stand_in c.args.table.now.forwards c.args.dead ≡ c.unwrap-forward.result.now = dead_stands c.args.table.now.forwards c.args.dead _ dead_is in
     let whole : take c.loop-at.at c.unwrap-forward.result.now ≡ c.unwrap-forward.result.now = take_all _ _ (omega (arith, c.loop-at-test.false, c.len-at-end.ensures)) in
     let image : IsReducedOf ◌<◌ nat_eq (presented c.args.table.now).prime c.loop-at.image (image_difference (presented c.args.table.now).prime (row_at c.args.table.now) c.args.table.now.forwards c.args.dead c.args.letter) =
     record { reduced = c.loop-at.invariant.reduced; alike = Alike_from_weights nat_eq (rw stands (rw whole at c.loop-at.invariant.sum)) } in
@@ -96,7 +97,7 @@ returns-clause-derived c =
     let sound = c.presentation.ensures.sound in
     let order = c.words_are_ordered.ensures (presented c.args.table.now) sound.valid.presentation in
     let dead_is : slice_get c.args.table.now.forwards c.args.dead ≡ Some (Some c.unwrap-forward.result.now) = c.forward.ensures ∙ ap (λ o. Some (option_copied o)) c.unwrap-forward.ensures in
-    let stands : stand_in c.args.table.now.forwards c.args.dead ≡ c.unwrap-forward.result.now = dead_stands c.args.table.now c.args.dead _ dead_is in
+    let stands : stand_in c.args.table.now.forwards c.args.dead ≡ c.unwrap-forward.result.now = dead_stands c.args.table.now.forwards c.args.dead _ dead_is in
     let whole : take c.loop-at.at c.unwrap-forward.result.now ≡ c.unwrap-forward.result.now = take_all _ _ (omega (arith, c.loop-at-test.false, c.len-at-end.ensures)) in
     let image : IsReducedOf ◌<◌ nat_eq (presented c.args.table.now).prime c.loop-at.image (image_difference (presented c.args.table.now).prime (row_at c.args.table.now) c.args.table.now.forwards c.args.dead c.args.letter) =
     record { reduced = c.loop-at.invariant.reduced; alike = Alike_from_weights nat_eq (rw stands (rw whole at c.loop-at.invariant.sum)) } in

@@ -4,5 +4,5 @@ use Rattle.ve_settle.proofs.live.greatest_live_id.Goals as goal
 
 pub loop-id-init : goal.loop-id-init
 loop-id-init c =
-    let count : length c.args.table.now.forwards ≡ c.id_count-id.result = c.table_is_sound.ensures.one_forward_each ∙ sym c.id_count-id.ensures in
+    let count : length c.args.table.now.forwards ≡ c.id_count-id.result = c.is_sound.ensures.one_forward_each ∙ sym c.id_count-id.ensures in
     λ b live. subst (λ n. b < n) count (slice_get_within c.args.table.now.forwards b None live)

@@ -8,9 +8,9 @@ use Rattle.ve_theory.proofs.Members.{All-scaled}
 use Rattle.ve_theory.proofs.Remainders.{All-unit}
 use Rattle.ve_table.specs.Tables.{presented, IsLive}
 use Rattle.ve_settle.specs.Falling.{left_of}
-use Rattle.ve_settle.proofs.Vectors.{reduced_keys, reduced_same}
-use Rattle.ve_settle.proofs.Forwards.{dead_stands, positive_prime}
-use Rattle.ve_settle.proofs.Forwarding.{done_dead, done_live, nothing_forwarded}
+use Rattle.ve_machine.proofs.ReducedSums.{reduced_keys, reduced_same}
+use Rattle.ve_machine.proofs.Forwardings.{dead_stands, positive_prime, nothing_forwarded}
+use Rattle.ve_settle.proofs.Forwarding.{done_dead, done_live}
 use Rattle.ve_settle.proofs.Resolving.{below_by_test, bound_kept, bounded, ceiling_falls, tested_below}
 use Rattle.ve_settle.proofs.resolution.resolve_by_falling_ids.Goals as goal
 
@@ -72,7 +72,7 @@ loop-term-preserved-in-Continue-branch-2 c =
       reduced = c.loop-term.invariant.reduced;
       live = c.loop-term.invariant.live;
       forwarding = done_dead p c.args.table.now.forwards c.args.vector.now c.loop-term.resolved _ _ _ c.in-Some-forward.forward.now c.in-Some.term.id c.in-Some.term.coef
-          (positive_prime c.args.table.now c.presentation.ensures.sound) left_is (dead_stands c.args.table.now c.in-Some.term.id _ dead_is) new_is c.loop-term.invariant.forwarding;
+          (positive_prime c.args.table.now c.presentation.ensures.sound) left_is (dead_stands c.args.table.now.forwards c.in-Some.term.id _ dead_is) new_is c.loop-term.invariant.forwarding;
       ids = λ among kept all.
           let parts = c.loop-term.invariant.ids among kept all in
           let taken = c.in-Some.ensures.ids among parts.1 in

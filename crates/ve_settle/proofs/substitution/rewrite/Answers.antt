@@ -4,18 +4,18 @@ use Rattle.ve_settle.proofs.Rewriting.{nothing_rewritten, rewritten_row}
 use Rattle.ve_settle.proofs.substitution.rewrite.Goals as goal
 
 pub has_live_ids-requires : goal.has_live_ids-requires
-has_live_ids-requires c = (c.table_is_sound.ensures.rows _ _ _ c.row_of-row.ensures).stands.row.1
+has_live_ids-requires c = (c.is_sound.ensures.rows _ _ _ c.row_of-row.ensures).stands.row.1
 
 pub rewritten-requires : goal.rewritten-requires
-rewritten-requires c = (c.table_is_sound.ensures.rows _ _ _ c.row_of-row.ensures).stands.row
+rewritten-requires c = (c.is_sound.ensures.rows _ _ _ c.row_of-row.ensures).stands.row
 
 pub returns-then-has_live_ids-clause-ok : goal.returns-then-has_live_ids-clause-ok
 returns-then-has_live_ids-clause-ok c =
-    nothing_rewritten c.args.table.now c.args.id c.args.letter c.row_of-row.result.now c.table_is_sound.ensures c.row_of-row.ensures (c.has_live_ids.ensures.0 (search rules))
+    nothing_rewritten c.args.table.now c.args.id c.args.letter c.row_of-row.result.now c.is_sound.ensures c.row_of-row.ensures (c.has_live_ids.ensures.0 (search rules))
 
 pub set_row-requires-clause-row : goal.set_row-requires-clause-row
 set_row-requires-clause-row c =
-    rewritten_row c.args.table.now c.table_is_sound.ensures (c.words_are_ordered.ensures (presented c.args.table.now) c.table_is_sound.ensures.valid.presentation)
+    rewritten_row c.args.table.now c.is_sound.ensures (c.words_are_ordered.ensures (presented c.args.table.now) c.is_sound.ensures.valid.presentation)
     c.args.id c.args.letter c.row_of-row.result.now c.in_ok-next.next c.row_of-row.ensures c.in_ok-next.ensures
 
 pub returns-clause-ok : goal.returns-clause-ok

@@ -4,8 +4,9 @@ use Rattle.ve_theory.specs.Combinations.{extended}
 use Rattle.ve_theory.proofs.Sums.{prime-large, SameWeights-refl}
 use Rattle.ve_table.specs.Tables.{presented}
 use Rattle.ve_machine.specs.Forwards.{stand_in}
-use Rattle.ve_settle.proofs.Vectors.{part_more, reduced_same, term_all, term_residue}
-use Rattle.ve_settle.proofs.Forwards.{dead_stands, live_stands}
+use Rattle.ve_settle.proofs.Vectors.{part_more, term_all, term_residue}
+use Rattle.ve_machine.proofs.ReducedSums.{reduced_same}
+use Rattle.ve_machine.proofs.Forwardings.{dead_stands, live_stands}
 use Rattle.ve_settle.proofs.Substituting.{joined, left_more, right_more}
 use Rattle.ve_settle.proofs.substitution.rewritten.Goals as goal
 use Rattle.ve_settle.proofs.substitution.rewritten.Goals.{in-Some+in_ok-add_scaled-in-Some, in-None+in_ok-add_term-in-None}
@@ -52,14 +53,14 @@ loop-at-preserved c =
           rw (w.kept-is, w.brought-is) (record {
             kept = c.loop-at.invariant.kept;
             brought = sum.reduced;
-            sum = right_more p (stand_in c.args.table.now.forwards) _ _ c.term-term.result.id c.term-term.result.coef next_is _ _ _ _ (dead_stands c.args.table.now c.term-term.result.id _ w.in-Some.ensures) c.loop-at.invariant.sum (reduced_same _ _ _ sum);
+            sum = right_more p (stand_in c.args.table.now.forwards) _ _ c.term-term.result.id c.term-term.result.coef next_is _ _ _ _ (dead_stands c.args.table.now.forwards c.term-term.result.id _ w.in-Some.ensures) c.loop-at.invariant.sum (reduced_same _ _ _ sum);
           })
       | in-None+in_ok-add_term-in-None w ↦
           let sum = rw same at w.in_ok-add_term-in-None.ensures in
           rw (w.kept-is, w.brought-is) (record {
             kept = sum.reduced;
             brought = c.loop-at.invariant.brought;
-            sum = left_more p (stand_in c.args.table.now.forwards) _ _ c.term-term.result.id c.term-term.result.coef next_is _ _ _ _ (live_stands c.args.table.now c.term-term.result.id w.in-None.ensures) c.loop-at.invariant.sum (reduced_same _ _ _ sum);
+            sum = left_more p (stand_in c.args.table.now.forwards) _ _ c.term-term.result.id c.term-term.result.coef next_is _ _ _ _ (live_stands c.args.table.now.forwards c.term-term.result.id w.in-None.ensures) c.loop-at.invariant.sum (reduced_same _ _ _ sum);
           })
     ]
 

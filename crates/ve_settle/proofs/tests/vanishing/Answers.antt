@@ -9,5 +9,5 @@ add_letter-requires-clause-name c = refl
 
 pub returns : goal.returns
 returns c =
-    one_relation c.args.field (120 ∷ []) c.new-presentation.result c.add_letter.new.self c.add_relation.new.self c.in_ok-one.one c.prime-prime.ensures.above_one
+    one_relation c.args.field (120 ∷ []) c.new-presentation.result c.add_letter.new.self c.add_relation.new.self c.in_ok-one.one c.has_prime.ensures.above_one
     c.new-presentation.ensures.bare c.in_ok-add_letter.ensures.ok c.in_ok-one.ensures.constant c.in_ok-add_relation.ensures.ok

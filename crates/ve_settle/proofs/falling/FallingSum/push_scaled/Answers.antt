@@ -1,7 +1,7 @@
 use Rattle.std.proofs.Common.{ℕ, IsTrue, nat_eq}
 use Rattle.std.proofs.lemmas.List.Elements.{All-append}
 use Rattle.ve_theory.proofs.Sums.{Alike_from_weights, weights_from_Alike, Decides-nat_eq}
-use Rattle.ve_settle.proofs.Vectors.{reduced_same}
+use Rattle.ve_machine.proofs.ReducedSums.{reduced_same}
 use Rattle.ve_settle.proofs.SortedTerms.{parts_all, pushed_before, pushed_behind}
 use Rattle.ve_settle.proofs.falling.FallingSum.push_scaled.Goals as goal
 
