@@ -15,7 +15,7 @@ use Rattle.ve_machine.specs.Forwards.{Forwards, IsResolved, AreLive}
 use Rattle.ve_machine.specs.Finished.{IsPacked}
 use Rattle.ve_machine.specs.Laws.{ForwardingsAreASpace}
 use Rattle.ve_pack.specs.Packing.{IsPacking, IsPartlyResolved}
-use Rattle.ve_pack.proofs.Reaches.{positive_prime}
+use Rattle.ve_machine.proofs.Forwardings.{positive_prime}
 use Rattle.ve_pack.proofs.Resolved.{resolved_itself, resolved_where_live}
 
 -- how many live ids are below b

@@ -1,5 +1,4 @@
 pub mod Falling
-pub mod Reaches
 pub mod Resolved
 pub mod Steps
 pub mod Vectors

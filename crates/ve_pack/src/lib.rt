@@ -3,7 +3,6 @@
 
 mod live;
 mod packing;
-mod places;
 mod resolving;
 mod words;
 

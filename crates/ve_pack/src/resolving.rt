@@ -8,14 +8,12 @@ ghost use Rattle.ve_pack.specs.LiveVectors.{HasLiveImage, HasLiveRow};
 ghost use Rattle.ve_pack.specs.Packing.{IsPartlyResolved};
 
 use crate::live::has_live_ids;
-use crate::places::{first_of_reach, least_dead};
 use std::alloc::Global;
 use ve_machine::finished::stays_finished;
 use ve_machine::forwards::forwardings_are_a_space;
-use ve_settle::resolve;
+use ve_settle::{resolutions_keep_words, resolve, words_rise_with_ids};
 use ve_table::Table;
-use ve_theory::derivations::levels_are_closed;
-use ve_theory::order::{reach_adds_up, reaches_are_bounded, words_are_ordered};
+use ve_theory::order::{reach_adds_up, reaches_are_bounded};
 use ve_vec::Rows;
 use ve_word::Memory;
 
@@ -28,7 +26,7 @@ pub(crate) fn resolve_all(alloc: Global, table: &mut Table) -> Result<(), Memory
 {
     forwardings_are_a_space();
     stays_finished();
-    let Some(dead) = least_dead(table) else {
+    let Some(dead) = table.least_dead() else {
         return Ok(());
     };
     resolve_rows(alloc, table, dead)?;
@@ -48,10 +46,11 @@ fn resolve_rows(alloc: Global, table: &mut Table, dead: u32) -> Result<(), Memor
     forwardings_are_a_space();
     reach_adds_up();
     reaches_are_bounded();
-    words_are_ordered();
+    words_rise_with_ids();
     // No id of a row reaches further than its product.
     let step = u32::from(table.presentation().greatest_weight());
-    let first = first_of_reach(table, table.reach(dead).saturating_sub(step));
+    let least = table.reach(dead).saturating_sub(step);
+    let first = table.first_of_reach(u64::from(least));
     for id in first..table.id_count() {
         if table.is_live(id) {
             resolve_rows_of(alloc, table, id, dead)?;
@@ -92,8 +91,7 @@ fn resolve_row(
     ensures live { OnOk result (HasLiveRow table.new id letter) }
 {
     stays_finished();
-    levels_are_closed();
-    words_are_ordered();
+    resolutions_keep_words();
     let Some(row) = table.row(id, letter) else {
         return Ok(());
     };
@@ -131,8 +129,7 @@ fn resolve_image(alloc: Global, table: &mut Table, root: u8, dead: u32) -> Resul
     ensures live { OnOk result (HasLiveImage table.new root) }
 {
     stays_finished();
-    levels_are_closed();
-    words_are_ordered();
+    resolutions_keep_words();
     let image = table.image(root);
     if has_live_ids(table, image, dead) {
         return Ok(());

@@ -9,7 +9,6 @@ use Rattle.ve_theory.specs.Words.{generator, times, letters}
 use Rattle.ve_theory.specs.Presentations.{letter_count, reach, step, IsWord}
 use Rattle.ve_theory.specs.Answers.{Row}
 use Rattle.ve_theory.specs.Laws.{ReachAddsUp}
-use Rattle.ve_theory.proofs.Sums.{prime-large}
 use Rattle.ve_table.specs.Tables.{ActionTable, presented, word_at, row_at, IsDead, IsDue, IsLive}
 use Rattle.ve_table.specs.Books.{IsOriginOf}
 use Rattle.ve_table.specs.declared.origin.Origin.TheVariants.{Child}
@@ -18,11 +17,9 @@ use Rattle.ve_table.specs.Changes.{with_forward, with_row}
 use Rattle.ve_machine.specs.Forwards.{IsDrawnFrom, IsForwarding, IsResolved, IsRewritten}
 use Rattle.ve_machine.specs.Jobs.{HasForward}
 use Rattle.ve_machine.specs.Laws.{DeathsKeep, ForwardingsAreASpace, StaysUnderWay}
+use Rattle.ve_machine.proofs.Forwardings.{positive_prime}
 use Rattle.ve_plain.specs.Working.{Continues, Vanishes}
 use Rattle.ve_plain.proofs.Lists.{HasForward-kept, HasForward-new}
-
-pub positive_prime : (T : ActionTable) → IsSound T → 0 < (presented T).prime
-positive_prime T sound = omega (arith, prime-large (presented T).prime sound.valid.presentation.field)
 
 pub Continues-refl : (T : ActionTable) → IsSound T → Continues T T
 Continues-refl T sound = record {

@@ -15,7 +15,7 @@ use Rattle.ve_machine.specs.Laws.{NothingLeftIsFinished, OpeningsAreUnderWay}
 use Rattle.ve_plain.specs.Working.{Continues, HaveImagesBut, IsAtWork, KnowsRelator, KnowsRelators, KnowsSubmodule}
 use Rattle.ve_plain.specs.Works.{Settles}
 use Rattle.ve_plain.specs.declared.work.Work.{Work}
-use Rattle.ve_plain.proofs.Going.{positive_prime}
+use Rattle.ve_machine.proofs.Forwardings.{positive_prime}
 use Rattle.ve_plain.proofs.Known.{later, live_before, on_table}
 use Rattle.ve_plain.proofs.Settling.{Settles-trans}
 

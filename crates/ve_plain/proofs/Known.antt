@@ -18,7 +18,7 @@ use Rattle.ve_plain.specs.Working.{Continues, IsAtWork, with_forwards}
 use Rattle.ve_plain.specs.Works.{Imposes}
 use Rattle.ve_plain.specs.declared.work.Work.{Work}
 use Rattle.ve_plain.proofs.Lists.{live_or_dead}
-use Rattle.ve_plain.proofs.Going.{positive_prime}
+use Rattle.ve_machine.proofs.Forwardings.{positive_prime}
 
 -- what holds of a table's presentation, level and book holds of the opening's
 pub on_opening : (Q : Draft → ℕ → List Word → Type 0) (O T : ActionTable) → IsAtWork O T → Q T.draft T.level T.words → Q O.draft O.level O.words

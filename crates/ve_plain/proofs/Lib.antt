@@ -4,5 +4,4 @@ pub mod Going
 pub mod Working
 pub mod Known
 pub mod Settling
-pub mod Reaches
 pub mod Jobs

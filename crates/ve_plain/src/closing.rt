@@ -6,7 +6,6 @@ ghost use Rattle.ve_machine.specs.Jobs.{IsSettled};
 ghost use Rattle.ve_plain.specs.SameLevel.{IsSameLevel};
 ghost use Rattle.ve_plain.specs.Working.{Continues, HaveImagesBut, IsAtWork};
 
-use crate::sound::table_is_sound;
 use crate::work::Work;
 use std::alloc::Global;
 use ve_machine::work::{nothing_left_is_finished, openings_are_under_way};
@@ -22,7 +21,7 @@ pub fn close_level(alloc: Global, table: Table) -> Result<Finished, Short>
 {
     openings_are_under_way();
     nothing_left_is_finished();
-    table_is_sound(&table);
+    table.is_sound();
     let mut work = Work::new(alloc, table);
     match work.do_all() {
         Ok(_) => Ok(finish(work.table)),

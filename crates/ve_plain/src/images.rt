@@ -6,7 +6,6 @@ ghost use Rattle.ve_machine.specs.Forwards.{IsForwarding};
 ghost use Rattle.ve_machine.specs.Jobs.{image_value};
 ghost use Rattle.ve_plain.specs.Working.{Continues, HasImages, IsAtWork};
 
-use crate::sound::table_is_sound;
 use crate::work::Work;
 use ve_machine::work::tracing_is_known;
 use ve_settle::image_of;
@@ -21,7 +20,7 @@ impl Work {
         ensures continues { Continues self.old.table self.new.table }
         ensures ok { OnOk result (Settles self.old self.new) }
     {
-        table_is_sound(&self.table);
+        self.table.is_sound();
         while let Some(id) = self.waiting.pop() {
             self.do_images(id)?;
         }
@@ -35,7 +34,7 @@ impl Work {
         ensures lasts { OnOk result (Lasts self.old self.new) }
         ensures done { OnOk result ((O : ActionTable) → IsAtWork O self.old.table → HasImages O self.new.table.forwards id) }
     {
-        table_is_sound(&self.table);
+        self.table.is_sound();
         for letter in 0..self.table.presentation().names().count() {
             if self.table.has_row(id, letter) {
                 self.do_image(id, letter)?;
@@ -54,7 +53,7 @@ impl Work {
             → IsForwarding O.draft.presentation.prime self.new.table.forwards (image_value O self.new.table.forwards id letter)) }
     {
         tracing_is_known();
-        table_is_sound(&self.table);
+        self.table.is_sound();
         let image = image_of(self.alloc, &self.table, id, letter)?;
         self.impose(&image)?;
         Ok(())

@@ -5,7 +5,6 @@ mod closing;
 mod ids;
 mod images;
 mod relations;
-mod sound;
 mod tracing;
 mod work;
 

@@ -8,7 +8,6 @@ ghost use Rattle.ve_machine.specs.Jobs.{relator_value, submodule_value};
 ghost use Rattle.ve_plain.specs.Working.{Continues, IsAtWork, KnowsRelators, KnowsSubmodule};
 
 use crate::ids::first_due;
-use crate::sound::table_is_sound;
 use crate::tracing::{traced_relator, traced_submodule_relation};
 use crate::work::Work;
 use ve_machine::work::tracing_is_known;
@@ -25,7 +24,7 @@ impl Work {
         ensures done { OnOk result ((O : ActionTable) → IsAtWork O self.old.table
             → (number : ℕ) → number < length (presented O).submodule → KnowsSubmodule O self.new.table.forwards number) }
     {
-        table_is_sound(&self.table);
+        self.table.is_sound();
         for number in 0..self.table.presentation().sub_count() {
             if self.table.due_sub(number) == u64::from(self.table.level()) {
                 self.submodule_relation(number)?;
@@ -41,7 +40,7 @@ impl Work {
         ensures settles { OnOk result (Settles self.old self.new) }
         ensures done { OnOk result ((O : ActionTable) → IsAtWork O self.old.table → (b : ℕ) → KnowsRelators O self.new.table.forwards b) }
     {
-        table_is_sound(&self.table);
+        self.table.is_sound();
         for id in first_due(&self.table)..self.table.id_count() {
             self.relators_at(id)?;
         }
@@ -56,7 +55,7 @@ impl Work {
         ensures settles { OnOk result (Settles self.old self.new) }
         ensures done { OnOk result ((O : ActionTable) → IsAtWork O self.old.table → KnowsRelators O self.new.table.forwards id) }
     {
-        table_is_sound(&self.table);
+        self.table.is_sound();
         for number in 0..self.table.presentation().relator_count() {
             if !self.table.is_live(id) {
                 return Ok(());
@@ -79,7 +78,7 @@ impl Work {
         ensures done { OnOk result ((O : ActionTable) → IsAtWork O self.old.table → Known O self.new.table.forwards (relator_value O id number)) }
     {
         tracing_is_known();
-        table_is_sound(&self.table);
+        self.table.is_sound();
         let vector = traced_relator(self.alloc, &self.table, id, number)?;
         self.impose(&vector)?;
         self.settle()?;
@@ -96,7 +95,7 @@ impl Work {
         ensures done { OnOk result ((O : ActionTable) → IsAtWork O self.old.table → Known O self.new.table.forwards (submodule_value O number)) }
     {
         tracing_is_known();
-        table_is_sound(&self.table);
+        self.table.is_sound();
         let vector = traced_submodule_relation(self.alloc, &self.table, number)?;
         self.impose(&vector)?;
         self.settle()?;

@@ -38,7 +38,7 @@ pub(crate) fn traced_relator(
     sums_add_coefficients();
     let presentation = table.presentation();
     let field = presentation.field();
-    let _prime = field.prime();
+    field.has_prime();
     let relator = presentation.relator(number);
     let vector = trace_relator(alloc, table, field, id, relator)?;
     Ok(vector)
@@ -63,7 +63,7 @@ pub(crate) fn traced_submodule_relation(
     sums_add_coefficients();
     let presentation = table.presentation();
     let field = presentation.field();
-    let _prime = field.prime();
+    field.has_prime();
     let relation = presentation.sub(number);
     let images = table.images();
     let vector = trace_sub(alloc, table, field, images, relation)?;

@@ -7,7 +7,6 @@ ghost use Rattle.ve_table.specs.Tables.{IsDead, element_of, presented};
 ghost use Rattle.ve_table.specs.Sound.{IsSound};
 ghost use Rattle.ve_plain.specs.Working.{Continues, Vanishes};
 
-use crate::sound::table_is_sound;
 use std::alloc::Global;
 use ve_machine::forwards::{deaths_keep, forwardings_are_a_space};
 use ve_machine::work::stays_under_way;
@@ -70,7 +69,7 @@ fn delete_resolved(alloc: Global, table: &mut Table, vector: &Sparse) -> Result<
     forwardings_are_a_space();
     deaths_keep();
     stays_under_way();
-    let _prime = table.presentation().field().prime();
+    table.is_sound();
     let resolved = resolve(alloc, table, vector)?;
     Ok(delete(table, resolved))
 }
@@ -83,7 +82,7 @@ fn rewrite_parent(alloc: Global, table: &mut Table, id: u32) -> Result<(), Memor
 {
     reach_adds_up();
     stays_under_way();
-    table_is_sound(table);
+    table.is_sound();
     if let Origin::Child { parent, letter } = table.origin(id) {
         if table.is_live(parent) {
             rewrite(alloc, table, parent, letter)?;

@@ -1,15 +1,16 @@
 use Rattle.std.proofs.Common.{get_or}
 use Rattle.std.proofs.lemmas.Option.{slice_get-get_or}
-use Rattle.ve_pack.proofs.Reaches.{positive_prime}
+use Rattle.ve_machine.proofs.Forwardings.{positive_prime}
+use Rattle.ve_pack.proofs.Dropping.{live_packed}
 use Rattle.ve_pack.proofs.Steps.{resolved_further, row_stays_live, still_live}
 use Rattle.ve_pack.proofs.resolving.resolve_all.Goals as goal
 
 pub returns-in_default-clause-live : goal.returns-in_default-clause-live
 returns-in_default-clause-live c = record {
   origins = c.stays_finished.ensures.prefixes c.args.table.now c.requires;
-  rows = λ b x v live found k d lt. c.in_default.ensures.none (get_or v k d).0 ((c.requires.sound.rows b x v found).stands.row.1 k d lt);
+  rows = λ b x v live found k d lt. live_packed c.args.table.now c.requires.sound c.in_default.ensures.none (get_or v k d).0 ((c.requires.sound.rows b x v found).stands.row.1 k d lt);
   images = λ i e within k d lt.
-      c.in_default.ensures.none (get_or (get_or c.args.table.now.images i e) k d).0
+      live_packed c.args.table.now c.requires.sound c.in_default.ensures.none (get_or (get_or c.args.table.now.images i e) k d).0
       ((c.requires.sound.images i (get_or c.args.table.now.images i e) (slice_get-get_or c.args.table.now.images i e within)).stands.row.1 k d lt);
 }
 

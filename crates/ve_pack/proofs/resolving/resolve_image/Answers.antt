@@ -5,8 +5,6 @@ use Rattle.ve_table.specs.Sound.{IsSound, HasLiveIds}
 use Rattle.ve_machine.specs.Finished.{IsFinishedTable}
 use Rattle.ve_pack.specs.Packing.{IsPartlyResolved}
 use Rattle.ve_pack.specs.LiveVectors.{HasLiveImage}
-use Rattle.ve_pack.proofs.Reaches.{positive_prime}
-use Rattle.ve_pack.proofs.Vectors.{resolved_vector}
 use Rattle.ve_pack.proofs.Steps.{image_resolved, image_set_here}
 use Rattle.ve_pack.proofs.resolving.resolve_image.Goals as goal
 
@@ -20,11 +18,8 @@ pub set_image-requires-clause-image : goal.set_image-requires-clause-image
 set_image-requires-clause-image c =
     let T : ActionTable = c.args.table.now in
     let sound = c.requires.finished.sound in
-    resolved_vector T sound (c.words_are_ordered.ensures (presented T) sound.valid.presentation) (c.levels_are_closed.ensures (presented T) T.level) (positive_prime T sound)
-    (generator c.args.root) c.image-image.result.now c.in_ok-resolved.resolved
-    (sound.images c.args.root c.image-image.result.now c.image-image.ensures)
-    (λ live. let answered : IsTrue c.has_live_ids.result = c.has_live_ids.ensures.1 live in absurd cc)
-    c.in_ok-resolved.ensures.row c.in_ok-resolved.ensures.derived c.in_ok-resolved.ensures.ids
+    c.resolutions_keep_words.ensures T (generator c.args.root) c.image-image.result.now c.in_ok-resolved.resolved sound
+    (sound.images c.args.root c.image-image.result.now c.image-image.ensures) c.in_ok-resolved.ensures.resolved
 
 pub returns-clause-finished : goal.returns-clause-finished
 returns-clause-finished c =

@@ -2,7 +2,7 @@ use Rattle.std.proofs.Common.{ap, arith, below_more}
 use Rattle.std.proofs.lemmas.Option.{slice_get_within}
 use Rattle.ve_pres.specs.Drafts.{Draft}
 use Rattle.ve_pack.specs.LiveVectors.{HasLiveImage}
-use Rattle.ve_pack.proofs.Reaches.{positive_prime}
+use Rattle.ve_machine.proofs.Forwardings.{positive_prime}
 use Rattle.ve_pack.proofs.Steps.{resolved_further, image_stays_live}
 use Rattle.ve_pack.proofs.resolving.resolve_images.Goals as goal
 

@@ -5,8 +5,6 @@ use Rattle.ve_table.specs.Sound.{IsSound, HasLiveIds}
 use Rattle.ve_machine.specs.Finished.{IsFinishedTable}
 use Rattle.ve_pack.specs.Packing.{IsPartlyResolved}
 use Rattle.ve_pack.specs.LiveVectors.{HasLiveRow}
-use Rattle.ve_pack.proofs.Reaches.{positive_prime}
-use Rattle.ve_pack.proofs.Vectors.{resolved_vector}
 use Rattle.ve_pack.proofs.Steps.{row_resolved, row_set_here}
 use Rattle.ve_pack.proofs.resolving.resolve_row.Goals as goal
 
@@ -20,11 +18,8 @@ pub set_row-requires-clause-row : goal.set_row-requires-clause-row
 set_row-requires-clause-row c =
     let T : ActionTable = c.args.table.now in
     let sound = c.requires.finished.sound in
-    resolved_vector T sound (c.words_are_ordered.ensures (presented T) sound.valid.presentation) (c.levels_are_closed.ensures (presented T) T.level) (positive_prime T sound)
-    (times (word_at T c.args.id) c.args.letter) c.in-Some.row.now c.in_ok-resolved.resolved
-    (sound.rows c.args.id c.args.letter c.in-Some.row.now (sym c.in-Some.ensures))
-    (λ live. let answered : IsTrue c.has_live_ids.result = c.has_live_ids.ensures.1 live in absurd cc)
-    c.in_ok-resolved.ensures.row c.in_ok-resolved.ensures.derived c.in_ok-resolved.ensures.ids
+    c.resolutions_keep_words.ensures T (times (word_at T c.args.id) c.args.letter) c.in-Some.row.now c.in_ok-resolved.resolved sound
+    (sound.rows c.args.id c.args.letter c.in-Some.row.now (sym c.in-Some.ensures)) c.in_ok-resolved.ensures.resolved
 
 pub returns-clause-finished : goal.returns-clause-finished
 returns-clause-finished c =

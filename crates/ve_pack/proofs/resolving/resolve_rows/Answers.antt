@@ -3,7 +3,7 @@ use Rattle.ve_theory.specs.Presentations.{greatest_step}
 use Rattle.ve_pres.specs.Drafts.{Draft}
 use Rattle.ve_table.specs.Tables.{presented, IsLive}
 use Rattle.ve_pack.specs.LiveVectors.{HasLiveRow}
-use Rattle.ve_pack.proofs.Reaches.{positive_prime}
+use Rattle.ve_machine.proofs.Forwardings.{positive_prime}
 use Rattle.ve_pack.proofs.Steps.{resolved_further, nothing_resolved, rows_stay_live}
 use Rattle.ve_pack.proofs.Vectors.{low_row_live}
 use Rattle.ve_pack.proofs.resolving.resolve_rows.Goals as goal
@@ -14,13 +14,13 @@ loop-id-init c = record {
   finished = c.requires.finished;
   resolved = nothing_resolved c.args.table.now;
   live = λ b less live x v found.
-      low_row_live c.args.table.now c.requires.finished.sound (c.words_are_ordered.ensures (presented c.args.table.now) c.requires.finished.sound.valid.presentation)
+      low_row_live c.args.table.now c.requires.finished.sound (c.words_rise_with_ids.ensures c.args.table.now c.requires.finished.sound)
       c.reach_adds_up.ensures (c.reaches_are_bounded.ensures (presented c.args.table.now) c.requires.finished.sound.valid.presentation)
-      c.args.dead c.requires.id c.requires.below b x v found
+      c.args.dead c.requires.below b x v found
       (omega (
         arith,
         c.first_of_reach-first.ensures.below b less,
-        c.saturating_sub.ensures,
+        c.saturating_sub-least.ensures, c.from.ensures,
         c.reach.ensures.reach,
         c.from-step.ensures,
         c.greatest_weight.ensures,

@@ -1,6 +1,6 @@
 use Rattle.std.proofs.Common.{below_more}
 use Rattle.ve_pack.specs.LiveVectors.{HasLiveRow}
-use Rattle.ve_pack.proofs.Reaches.{positive_prime}
+use Rattle.ve_machine.proofs.Forwardings.{positive_prime}
 use Rattle.ve_pack.proofs.Steps.{resolved_further, row_stays_live, live_as_before}
 use Rattle.ve_pack.proofs.resolving.resolve_rows_of.Goals as goal
 

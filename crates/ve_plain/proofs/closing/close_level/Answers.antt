@@ -7,5 +7,5 @@ use Rattle.ve_plain.proofs.closing.close_level.Goals as goal
 pub finish-requires : goal.finish-requires
 finish-requires c =
     finished_table c.openings_are_under_way.ensures c.nothing_left_is_finished.ensures c.new-work.result.table c.do_all.new.self.table
-    (subst IsOpening (sym c.new-work.ensures.table) c.requires) (subst IsSound (sym c.new-work.ensures.table) c.table_is_sound.ensures)
+    (subst IsOpening (sym c.new-work.ensures.table) c.requires) (subst IsSound (sym c.new-work.ensures.table) c.is_sound.ensures)
     c.do_all.ensures.continues c.in-Ok.ensures.settled

@@ -5,12 +5,12 @@ use Rattle.ve_plain.specs.Working.{Continues}
 use Rattle.ve_plain.proofs.work.rewrite_parent.Goals as goal
 
 pub is_live-requires : goal.is_live-requires
-is_live-requires c = parent_within c.reach_adds_up.ensures c.args.table.now c.table_is_sound.ensures c.args.id c.in-Child.parent c.in-Child.letter c.requires c.in-Child.ensures
+is_live-requires c = parent_within c.reach_adds_up.ensures c.args.table.now c.is_sound.ensures c.args.id c.in-Child.parent c.in-Child.letter c.requires c.in-Child.ensures
 
 pub rewrite-requires : goal.rewrite-requires
 rewrite-requires c =
-    (c.table_is_sound.ensures.due c.in-Child.parent c.in-Child.letter).1
-    (parent_due c.reach_adds_up.ensures c.args.table.now c.table_is_sound.ensures c.args.id c.in-Child.parent c.in-Child.letter c.requires c.in-Child.ensures)
+    (c.is_sound.ensures.due c.in-Child.parent c.in-Child.letter).1
+    (parent_due c.reach_adds_up.ensures c.args.table.now c.is_sound.ensures c.args.id c.in-Child.parent c.in-Child.letter c.requires c.in-Child.ensures)
 
 pub returns-in_ok-rewrite-clause-continues : goal.returns-in_ok-rewrite-clause-continues
 returns-in_ok-rewrite-clause-continues c =

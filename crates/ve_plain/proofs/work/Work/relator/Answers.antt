@@ -1,5 +1,6 @@
 use Rattle.ve_machine.specs.Jobs.{relator_value}
-use Rattle.ve_plain.proofs.Going.{Continues-trans, positive_prime}
+use Rattle.ve_machine.proofs.Forwardings.{positive_prime}
+use Rattle.ve_plain.proofs.Going.{Continues-trans}
 use Rattle.ve_plain.proofs.Known.{relator_known}
 use Rattle.ve_plain.proofs.Settling.{settles_after}
 use Rattle.ve_plain.proofs.work.Work.relator.Goals as goal
