@@ -10,6 +10,7 @@ use ve_pack::{pack, packed_words_are_live};
 use ve_settle::{Finished, finish};
 use ve_table::Table;
 use ve_theory::levels::{finished_levels_settle, open_levels_are_bounded};
+use ve_theory::order::valid_reaches_are_small;
 use ve_word::Memory;
 
 /// What `advance` answers.
@@ -37,6 +38,7 @@ pub fn advance(alloc: Global, finished: Finished, limit: u32) -> Advanced
 {
     finished_levels_settle();
     open_levels_are_bounded();
+    valid_reaches_are_small();
     finished.is_finished();
     if finished.closes() {
         return close(alloc, finished);

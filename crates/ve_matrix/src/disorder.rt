@@ -33,8 +33,7 @@ impl Answer {
         ensures ordered { IfOk result (λ disorder. IsNone disorder ↔ IsOrdered presentation.now.presentation (answer_of self.now).action) }
         ensures first { IfOk result (λ disorder. IfSome disorder (IsDisorder presentation.now.presentation (answer_of self.now).action)) }
     {
-        // Every presentation is valid.
-        let _field = presentation.field();
+        presentation.is_valid();
         if let Some(place) = self.first_fall(presentation)? {
             return Ok(Some(Disorder::Rising { row: place + 1 }));
         }

@@ -11,7 +11,7 @@ returns-then-closes c = c.close.ensures c.args.limit
 
 pub overflow_add-level : goal.overflow_add-level
 overflow_add-level c =
-    let fits = next_level_within (presented c.args.finished) c.is_finished.ensures.sound.valid c.args.finished.level c.args.limit c.requires.limit
+    let fits = next_level_within (presented c.args.finished) (c.valid_reaches_are_small.ensures (presented c.args.finished) c.is_finished.ensures.sound.valid) c.args.finished.level c.args.limit c.requires.limit
     (c.open_levels_are_bounded.ensures (presented c.args.finished) c.args.finished.level c.requires.fits.0 c.args.limit c.is_finished.ensures.sound.valid.presentation c.requires.fits.1 c.requires.fits.2
     (λ closes. let answered : IsTrue c.closes.result = c.closes.ensures.1 closes in absurd cc)) in
     omega (arith, fits, c.level-level.ensures, ap (λ T. T.level) c.table-then-size-from.ensures)
@@ -32,7 +32,7 @@ returns-then-size-from c =
 
 pub open_next-requires-clause-level : goal.open_next-requires-clause-level
 open_next-requires-clause-level c =
-    next_level_within (presented c.args.finished) c.is_finished.ensures.sound.valid c.args.finished.level c.args.limit c.requires.limit
+    next_level_within (presented c.args.finished) (c.valid_reaches_are_small.ensures (presented c.args.finished) c.is_finished.ensures.sound.valid) c.args.finished.level c.args.limit c.requires.limit
     (c.open_levels_are_bounded.ensures (presented c.args.finished) c.args.finished.level c.requires.fits.0 c.args.limit c.is_finished.ensures.sound.valid.presentation c.requires.fits.1 c.requires.fits.2
     (λ closes. let answered : IsTrue c.closes.result = c.closes.ensures.1 closes in absurd cc))
 
