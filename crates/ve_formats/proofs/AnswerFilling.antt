@@ -12,7 +12,7 @@ use Rattle.ve_formats.specs.WordText.{word_text}
 use Rattle.ve_formats.specs.AnswerText.{image_line, row_line, answer_lines, head_lines, basis_lines, image_lines, letter_lines, matrix_lines}
 use Rattle.ve_formats.proofs.SpacedPieces.{All-last}
 use Rattle.ve_formats.specs.AnswerReading as places
-use Rattle.ve_formats.specs.AnswerReading.{IsWritable, ShowsAnswer, Draft, Place, blank_draft, head_places, body_places, matrix_places, Grows, a_generator, a_child, with_row, Fills, a_version, a_prime, some_names, some_generators, a_level, a_dimension, a_word, an_image, a_letter, a_row, the_end, FillAll, one, opened}
+use Rattle.ve_formats.specs.AnswerReading.{IsWritable, ShowsAnswer, Draft, Place, blank_draft, head_places, body_places, matrix_places, Grows, a_generator, a_child, with_row, Fills, a_version, a_prime, some_names, some_generators, a_level, a_dimension, a_word, an_image, a_letter, a_row, the_end, FillAll, one, opened, answer_in}
 
 -- the draft of a whole answer
 pub draft_of : Answer → Draft
@@ -263,16 +263,6 @@ fill_answer A writable =
     (one (some_generators A.generators writable.generators.0 writable.generators.1)
     (one (a_level A.closed writable.closed)
     (one (a_dimension (answers.dimension A.action) writable.dimension) (fill_body_alone A writable))))))
-
--- the answer of a draft
-unfoldable pub answer_in : Draft → Answer
-answer_in draft = record {
-  prime = draft.prime;
-  names = draft.names;
-  generators = draft.generators;
-  closed = draft.closed;
-  action = record { basis = draft.basis; images = draft.images; matrices = draft.matrices };
-}
 
 pub answer_of_draft : (A : Answer) → answer_in (draft_of A) ≡ A
 unfolding answer_in draft_of

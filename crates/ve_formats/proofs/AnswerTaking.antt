@@ -14,9 +14,9 @@ use Rattle.ve_formats.specs.Lines.{each_after_space}
 use Rattle.ve_formats.specs.WordText.{word_text}
 use Rattle.ve_formats.specs.AnswerText.{numbered, image_line, row_line, answer_lines, head_lines, basis_lines, image_lines, letter_lines, matrix_lines}
 use Rattle.ve_formats.specs.AnswerReading as places
-use Rattle.ve_formats.specs.AnswerReading.{AreNames, IsWritable, Draft, Place, blank_draft, head_places, body_places, matrix_places, Grows, a_generator, a_child, with_row, Fills, FillAll, one, opened}
+use Rattle.ve_formats.specs.AnswerReading.{AreNames, IsWritable, Draft, Place, blank_draft, head_places, body_places, matrix_places, Grows, a_generator, a_child, with_row, Fills, FillAll, one, opened, answer_in}
 use Rattle.ve_formats.proofs.AnswerSteps.{version_filled, prime_filled, names_filled, generators_filled, level_filled, dimension_filled, word_filled, image_filled, letter_filled, row_filled, end_filled}
-use Rattle.ve_formats.proofs.AnswerFilling.{AreAddable, answer_in, letters_from, with_row-last, matrix_lines-all}
+use Rattle.ve_formats.proofs.AnswerFilling.{AreAddable, letters_from, with_row-last, matrix_lines-all}
 
 -- ---- the first line
 

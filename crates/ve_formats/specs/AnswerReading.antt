@@ -55,6 +55,16 @@ blank_draft = record {
   matrices = [];
 }
 
+-- the answer of a draft
+unfoldable pub answer_in : Draft → Answer
+answer_in draft = record {
+  prime = draft.prime;
+  names = draft.names;
+  generators = draft.generators;
+  closed = draft.closed;
+  action = record { basis = draft.basis; images = draft.images; matrices = draft.matrices };
+}
+
 -- the places of lines; a letter's line is the one with its name
 pub data Place : Type 0 where
   version : Place

@@ -1,11 +1,11 @@
 use Rattle.std.proofs.Common.{◌≡◌, inl, inr, List, ℕ, sym, ap, subst, ◌∙◌}
 use Rattle.ve_theory.specs.Answers.{Answer}
-use Rattle.ve_formats.specs.AnswerReading.{ShowsAnswer, blank_draft, head_places, FillAll}
+use Rattle.ve_formats.specs.AnswerReading.{ShowsAnswer, blank_draft, head_places, FillAll, answer_in}
 use Rattle.ve_formats.specs.Lines.{lines_of}
 use Rattle.ve_formats.proofs.AnswerChoices.{filled_or_not}
 use Rattle.ve_formats.proofs.AnswerTaking.{answer_shown}
 use Rattle.ve_formats.proofs.AnswerOutcomes.{at_first, fails_once, filled_once, never_both}
-use Rattle.ve_formats.proofs.AnswerFilling.{draft_of, answer_in, answer_of_draft, fill_answer}
+use Rattle.ve_formats.proofs.AnswerFilling.{draft_of, answer_of_draft, fill_answer}
 use Rattle.ve_formats.proofs.answers.answers_are_read_once.Goals as goal
 
 filled : (text : List ℕ) (A : Answer) → ShowsAnswer text A → FillAll blank_draft head_places (lines_of text) (draft_of A)
@@ -27,3 +27,6 @@ returns-clause-read c text = elim (filled_or_not (lines_of text) blank_draft hea
   | inl all ↦ let shown = answer_shown all.1 in inl (answer_in all.0, record { lines = shown.lines_are; writable = shown.writable })
   | inr failed ↦ inr failed
 ]
+
+pub returns-clause-filled : goal.returns-clause-filled
+returns-clause-filled c text last all = let shown = answer_shown all in record { lines = shown.lines_are; writable = shown.writable }
