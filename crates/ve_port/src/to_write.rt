@@ -1,7 +1,7 @@
 ghost use Rattle.std.specs.Prelude.{◌≡◌, OnOk, OnErr};
 ghost use Rattle.std.specs.Io.KnownBytes.{Appends};
 ghost use Rattle.ve_port.specs.Count.{next_u64};
-ghost use Rattle.ve_port.specs.Edge.{edge_output};
+ghost use Rattle.ve_port.specs.Edge.{AppendsFront, edge_output};
 ghost use Rattle.ve_port.specs.Sink.{Breaks};
 
 use crate::fault::Failed;
@@ -44,6 +44,10 @@ impl<W: Write> Sink for ToWrite<W> {
         // Where the writer's bytes are known, they grow by the piece.
         ensures known { OnOk result
             (Appends (W.contents self.old.stream) (W.contents self.new.stream) piece.now) }
+
+        // After a fault by a part of it, from its front.
+        ensures part { OnErr result
+            (AppendsFront (W.contents self.old.stream) (W.contents self.new.stream) piece.now) }
     {
         let written = write_out(&mut self.writer, piece);
         if written.is_err() {
@@ -56,7 +60,8 @@ impl<W: Write> Sink for ToWrite<W> {
 // Writes all of the piece and flushes. A write that takes nothing fails, and one that was
 // interrupted is tried again.
 fn write_out<W: Write>(writer: &mut W, piece: &[u8]) -> Result<(), Failed>
-    ensures { OnOk result (Appends (W.contents writer.old) (W.contents writer.new) piece.now) }
+    ensures whole { OnOk result (Appends (W.contents writer.old) (W.contents writer.new) piece.now) }
+    ensures part { OnErr result (AppendsFront (W.contents writer.old) (W.contents writer.new) piece.now) }
 {
     let mut rest = piece;
     for _ in 0..u64::MAX {
