@@ -121,8 +121,7 @@ impl Building {
             (λ why. (why ≡ Why.WrongLine) × ¬ (MayWeigh (built_of self.now) (declared_of letter.now))) }
         ensures valid { IsValid self.now.presentation.presentation }
     {
-        // That the presentation is valid is said where its field is read.
-        let _field = self.presentation.field();
+        self.presentation.is_valid();
         if letter.weight.is_some() && self.presentation.version() != 2 {
             return Err(Why::WrongLine);
         }
@@ -134,7 +133,7 @@ impl Building {
         requires { IsNamed letter.now }
         ensures { Judges self.now.presentation.presentation (declared_of letter.now) result }
     {
-        let _field = self.presentation.field();
+        self.presentation.is_valid();
         let mut names = self.presentation.names().copy()?;
         names.add(text_of(letter.name))?;
         weight_of(letter)
@@ -229,7 +228,7 @@ impl Building {
         if self.counted >= MOST_RELATIONS {
             return Err(Why::Limit(Limit::Relations));
         }
-        let _field = self.presentation.field();
+        self.presentation.is_valid();
         values_are_elements();
         let relation = difference_of(alloc, &self.presentation, left, right)?;
         self.presentation.add_relation(relation)?;
@@ -253,7 +252,7 @@ impl Building {
         if self.counted >= MOST_RELATIONS {
             return Err(Why::Limit(Limit::Relations));
         }
-        let _field = self.presentation.field();
+        self.presentation.is_valid();
         values_are_elements();
         let relation = module_difference_of(alloc, &self.presentation, left, right)?;
         self.presentation.add_sub(relation)?;
@@ -284,7 +283,7 @@ fn weigh(presentation: &mut Presentation, number: u8, weight: u8)
     ensures open { IsOpen presentation.new }
 {
     // The presentation is valid, so each letter has one weight.
-    let _field = presentation.field();
+    presentation.is_valid();
     if weight != 1 {
         presentation.weigh(number, weight);
     }

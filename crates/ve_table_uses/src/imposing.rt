@@ -36,8 +36,7 @@ pub fn impose_relator(
     ensures err { OnErr result (table.new ≡ table.old) }
     ensures sound { IsSound table.new }
 {
-    // Every table is sound.
-    let _presentation = table.presentation();
+    table.is_sound();
     let vector = traced_relator(alloc, table, id, number)?;
     let died = impose(alloc, table, &vector)?;
     Ok(died)
@@ -57,8 +56,7 @@ pub fn impose_submodule_relation(
     ensures err { OnErr result (table.new ≡ table.old) }
     ensures sound { IsSound table.new }
 {
-    // Every table is sound.
-    let _presentation = table.presentation();
+    table.is_sound();
     let relation = traced_submodule_relation(alloc, table, number)?;
     let died = impose(alloc, table, &relation)?;
     Ok(died)
@@ -85,7 +83,7 @@ pub(crate) fn traced_relator(
     sums_add_coefficients();
     let presentation = table.presentation();
     let field = presentation.field();
-    let _prime = field.prime();
+    field.has_prime();
     let relator = presentation.relator(number);
     let vector = trace_relator(alloc, table, field, id, relator)?;
     Ok(vector)
@@ -110,7 +108,7 @@ pub(crate) fn traced_submodule_relation(
     sums_add_coefficients();
     let presentation = table.presentation();
     let field = presentation.field();
-    let _prime = field.prime();
+    field.has_prime();
     let relation = presentation.sub(number);
     let images = table.images();
     let vector = trace_sub(alloc, table, field, images, relation)?;
@@ -127,7 +125,7 @@ fn impose(alloc: Global, table: &mut Table, vector: &Sparse) -> Result<Option<u3
 {
     levels_are_closed();
     sums_add_coefficients();
-    let _prime = table.presentation().field().prime();
+    table.presentation().field().has_prime();
     let resolved = resolve(alloc, table, vector)?;
     Ok(delete(table, resolved))
 }

@@ -57,7 +57,7 @@ impl Factor {
     ) -> Result<Factor, ValueFault>
         ensures { GivesFactor presentation.now.presentation (letter name.now) result }
     {
-        let _prime = presentation.field().prime();
+        presentation.field().has_prime();
         let Some(letter) = presentation.names().find(name) else {
             return Err(ValueFault::UnknownName);
         };
@@ -94,7 +94,7 @@ impl Factor {
         // The power 0 is known by its terms alone.
         reduced_lists_are_unique();
         let field = presentation.field();
-        let _prime = field.prime();
+        field.has_prime();
         let value = self.value.pow(field, exponent as u32)?;
         Ok(Factor::of_value(value))
     }
@@ -122,7 +122,7 @@ impl Factor {
         // The power 0 is known by its terms alone.
         reduced_lists_are_unique();
         let field = presentation.field();
-        let _prime = field.prime();
+        field.has_prime();
         let base = FreeAlg::letter(alloc, inverse)?;
         let value = base.pow(field, exponent as u32)?;
         Ok(Factor::of_value(value))

@@ -303,9 +303,8 @@ fn generator(
 ) -> Result<FreeMod, ValueFault>
     ensures { (n : Option ℕ) → multiple n ≡ number → GivesModule presentation.now.presentation (generated n name.now) result }
 {
-    // The presentation is valid, as its field says.
     let field = presentation.field();
-    let _prime = field.prime();
+    field.has_prime();
     let Some(generator) = generator_of(presentation, name) else {
         return Err(ValueFault::UnknownName);
     };

@@ -8,5 +8,5 @@ pub delete-requires-clause-derived : goal.delete-requires-clause-derived
 delete-requires-clause-derived c =
     let T = c.args.table.now in
     derived_too c.levels_are_closed.ensures c.sums_add_coefficients.ensures (presented T)
-    (subst (λ q. 1 < q) (c.field.ensures.field ∙ ap (λ (d : Draft). d.presentation.prime) c.presentation.ensures.value) c.prime-prime.ensures.above_one)
+    (subst (λ q. 1 < q) (c.field.ensures.field ∙ ap (λ (d : Draft). d.presentation.prime) c.presentation.ensures.value) c.has_prime.ensures.above_one)
     T.level (element_of T c.args.vector.now) (element_of T c.in_ok-resolved.resolved) c.requires.vanishes c.in_ok-resolved.ensures.derived

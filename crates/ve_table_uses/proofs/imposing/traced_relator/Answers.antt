@@ -20,7 +20,7 @@ pub returns-clause-vanishes : goal.returns-clause-vanishes
 returns-clause-vanishes c =
     relator_vanishes c.products_are_found.ensures c.relations_are_own.ensures c.args.table.now c.presentation-presentation.ensures.sound c.field-field.result.now
     (c.field-field.ensures.field ∙ ap (λ (d : Draft). d.presentation.prime) c.presentation-presentation.ensures.value)
-    c.levels_are_closed.ensures c.sums_add_coefficients.ensures c.prime-prime.ensures.above_one
+    c.levels_are_closed.ensures c.sums_add_coefficients.ensures c.has_prime.ensures.above_one
     c.args.id c.args.number c.relator-relator.result.now c.in_ok-vector.vector
     (c.relator-relator.ensures ∙ ap (λ (d : Draft). relator d.presentation c.args.number) c.presentation-presentation.ensures.value) c.requires.id c.requires.number c.requires.due
     (c.in_ok-vector.ensures.derived c.args.table.now)

@@ -29,7 +29,7 @@ pub returns-clause-vanishes : goal.returns-clause-vanishes
 returns-clause-vanishes c =
     relation_vanishes c.products_are_found.ensures c.relations_are_own.ensures c.args.table.now c.presentation-presentation.ensures.sound c.field-field.result.now
     (c.field-field.ensures.field ∙ ap (λ (d : Draft). d.presentation.prime) c.presentation-presentation.ensures.value)
-    c.levels_are_closed.ensures c.sums_add_coefficients.ensures c.prime-prime.ensures.above_one
+    c.levels_are_closed.ensures c.sums_add_coefficients.ensures c.has_prime.ensures.above_one
     c.images-images.result.now.items c.args.number c.sub-relation.result.now c.in_ok-vector.vector c.images-images.ensures
     (c.sub-relation.ensures ∙ ap (λ (d : Draft). submodule_relation d.presentation c.args.number) c.presentation-presentation.ensures.value) c.requires.number c.requires.due
     (c.in_ok-vector.ensures.derived c.args.table.now)

@@ -20,7 +20,7 @@ returns c =
     let x = declared_of c.args.letter.now in
     let P = c.args.self.now.presentation.presentation in
     let names : c.in_ok-names.names ≡ P.names = c.in_ok-names.ensures ∙ c.names.ensures in
-    let few : length c.in_ok-names.names ≤ most_letters = rw names c.field-field.ensures.valid.letters in
+    let few : length c.in_ok-names.names ≤ most_letters = rw names c.is_valid.ensures.valid.letters in
     let clauses = c.add.ensures in
     let new = new_by_add c.in_ok-names.names c.text_of.result.now c.add.result clauses.rooted clauses.taken clauses.full c.in_ok-add.field-0 c.in_ok-add.was few in
     judged_by_weight P x c.weight_of.result (rw (names, c.text_of.ensures) at new) c.weight_of.ensures

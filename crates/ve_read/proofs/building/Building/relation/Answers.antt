@@ -28,7 +28,7 @@ pub add_relation-requires-clause-letters : goal.add_relation-requires-clause-let
 add_relation-requires-clause-letters c =
     let P = c.args.self.presentation.presentation in
     let worth = c.in_ok-relation.ensures c.requires.left.0 c.requires.right.0 c.requires.left.1.spell c.requires.right.1.spell in
-    (c.values_are_elements.ensures.algebra P _ _ (valid_readable P c.field-field.ensures.valid) worth.value).letters
+    (c.values_are_elements.ensures.algebra P _ _ (valid_readable P c.is_valid.ensures.valid) worth.value).letters
 
 pub returns-in_err-add_relation : goal.returns-in_err-add_relation
 returns-in_err-add_relation c = λ d e left right.

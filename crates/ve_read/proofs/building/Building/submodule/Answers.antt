@@ -28,7 +28,7 @@ pub add_sub-requires-clause-words : goal.add_sub-requires-clause-words
 add_sub-requires-clause-words c =
     let P = c.args.self.presentation.presentation in
     let worth = c.in_ok-relation.ensures c.requires.left.0 c.requires.right.0 c.requires.left.1.spell c.requires.right.1.spell in
-    (c.values_are_elements.ensures.modules P _ _ (valid_readable P c.field-field.ensures.valid) worth.value).words
+    (c.values_are_elements.ensures.modules P _ _ (valid_readable P c.is_valid.ensures.valid) worth.value).words
 
 pub returns-in_err-add_sub : goal.returns-in_err-add_sub
 returns-in_err-add_sub c = λ d e left right.

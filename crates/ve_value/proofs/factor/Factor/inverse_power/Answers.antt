@@ -36,7 +36,7 @@ returns-in_err-value c = λ e h.
 pub returns : goal.returns
 returns c = λ e h.
     let low : c.args.exponent ≤ 1000 = omega arith in
-    let large : 1 < c.field-field.result.now = c.prime-prime.ensures.above_one in
+    let large : 1 < c.field-field.result.now = c.has_prime.ensures.above_one in
     let inverse = has_inverse _ e _ _ _ h c.in-Some.is c.in-Some-inverse_of.ensures.inverse in
     let given =
     subst (λ (v : AlgebraElement). HasPower c.args.presentation.now.presentation.prime v c.args.exponent (Ok c.in_ok-value.value)) c.in_ok-base.ensures.letter

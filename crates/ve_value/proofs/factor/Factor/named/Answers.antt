@@ -8,6 +8,6 @@ returns-in_default c = of_unknown (rw c.names.ensures at (c.in_default.ensures.a
 
 pub returns : goal.returns
 returns c =
-    let large : 1 < c.field.result.now = c.prime-prime.ensures.above_one in
+    let large : 1 < c.field.result.now = c.has_prime.ensures.above_one in
     let reduced = rw c.field.ensures.field at (c.in_ok-value.ensures.reduced _ large) in
     named_letter _ _ _ _ (rw c.names.ensures at c.in-Some.ensures.found) c.in_ok-value.ensures.letter reduced

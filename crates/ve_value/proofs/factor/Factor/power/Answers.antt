@@ -22,7 +22,7 @@ returns-in_err-value c = λ e h.
 pub returns : goal.returns
 returns c = λ e h.
     let low : c.args.exponent ≤ 1000 = omega arith in
-    let large : 1 < c.field-field.result.now = c.prime-prime.ensures.above_one in
+    let large : 1 < c.field-field.result.now = c.has_prime.ensures.above_one in
     let given =
     subst (λ (p : ℕ). HasPower p c.args.self.value c.args.exponent (Ok c.in_ok-value.value)) c.field-field.ensures.field
     (power_given c.reduced_lists_are_unique.ensures _ large _ _ _ c.in_ok-value.ensures.limit c.in_ok-value.ensures.power) in
