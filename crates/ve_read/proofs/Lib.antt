@@ -11,3 +11,4 @@ mod LineSteps
 mod TextSteps
 mod EndLines
 mod Cuts
+mod SingleCuts

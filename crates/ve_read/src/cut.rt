@@ -1,6 +1,6 @@
 //! Where a text is cut behind its line `end`.
 
-ghost use Rattle.std.specs.Prelude.{◌≡◌, ◌↔◌, ◌≤◌, IsTrue, length};
+ghost use Rattle.std.specs.Prelude.{◌≡◌, ℕ, ◌↔◌, ◌≤◌, List, IsTrue, length};
 ghost use Rattle.ve_read.specs.Cutting.{IsEndLine, IsSplitAt};
 
 use ve_lex::{Token, next_line, next_token};
@@ -40,3 +40,8 @@ fn is_end(line: &[u8]) -> bool
     };
     next.is_none()
 }
+
+/// A text is cut at one place alone. The contract of a function that does nothing.
+pub fn texts_are_cut_once()
+    ensures { (text : List ℕ) (at other : ℕ) → at ≤ length text → other ≤ length text → IsSplitAt text at → IsSplitAt text other → at ≡ other }
+{}

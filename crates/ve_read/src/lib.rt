@@ -9,7 +9,7 @@ mod keyword;
 mod lines;
 mod why;
 
-pub use cut::split;
+pub use cut::{split, texts_are_cut_once};
 pub use lines::read;
 pub use why::{ReadRefusal, Why};
 
