@@ -15,23 +15,28 @@ size [] = 0
 size (line ∷ lines) = length line + 1 + size lines
 
 size_onto_first : (b : ℕ) (lines : List (List ℕ)) → size lines < size (onto_first_line b lines)
-unfolding onto_first_line
-size_onto_first b [] = omega arith
-size_onto_first b (line ∷ lines) = omega arith
+unfolding onto_first_line size
+size_onto_first b [] = let is : size (onto_first_line b []) ≡ 2 = refl in let none : size [] ≡ 0 = refl in omega arith
+size_onto_first b (line ∷ lines) =
+    let is : size (onto_first_line b (line ∷ lines)) ≡ suc (length line) + 1 + size lines = refl in
+    let here : size (line ∷ lines) ≡ length line + 1 + size lines = refl in
+    omega arith
 
 grows : (b : ℕ) (text : List ℕ) → size (lines_of text) < size (lines_of (b ∷ text))
-unfolding lines_of
+unfolding lines_of size
 grows b text =
     elim (cases_Bool (nat_eq b line_feed)) [
-      | inl feed ↦ let is = ap size (cond-true ([] ∷ lines_of text) (onto_first_line b (lines_of text)) _ feed) in omega arith
+      | inl feed ↦
+          let is : size (lines_of (b ∷ text)) ≡ 0 + 1 + size (lines_of text) = ap size (cond-true _ _ _ feed) in
+          omega arith
       | inr other ↦
-          let is = ap size (cond-false ([] ∷ lines_of text) (onto_first_line b (lines_of text)) _ other) in
+          let is : size (lines_of (b ∷ text)) ≡ size (onto_first_line b (lines_of text)) = ap size (cond-false _ _ _ other) in
           let more = size_onto_first b (lines_of text) in
           omega arith
     ]
 
 grows_by : (front rest : List ℕ) → length front + size (lines_of rest) ≤ size (lines_of (front ++ rest))
-grows_by [] rest = omega arith
+grows_by [] rest = let none : length {A = ℕ} [] ≡ 0 = refl in omega arith
 grows_by (b ∷ front) rest = let less = grows b (front ++ rest) in let more = grows_by front rest in omega arith
 
 -- the places from which on a text has the same lines are the same
@@ -50,22 +55,22 @@ not_before text at other within same before =
 
 -- ---- the first line that is an end
 
-one_first : {Is : List ℕ → Type 0} (front other : List (List ℕ)) (last end : List ℕ) (rest behind : List (List ℕ)) → All (λ line. ¬ Is line) front → All (λ line. ¬ Is line) other → Is last → Is end
+one_first : (front other : List (List ℕ)) (last end : List ℕ) (rest behind : List (List ℕ)) → All (λ line. ¬ IsEndLine line) front → All (λ line. ¬ IsEndLine line) other → IsEndLine last → IsEndLine end
     → front ++ last ∷ rest ≡ other ++ end ∷ behind → rest ≡ behind
 one_first [] [] last end rest behind none also is_last is_end same = let parts : (last ≡ end) × (rest ≡ behind) = (cc, cc) in parts.1
-one_first {Is} [] (line ∷ other) last end rest behind none also is_last is_end same =
+one_first [] (line ∷ other) last end rest behind none also is_last is_end same =
     let here : last ≡ line = cc in
-    absurd (All-head (λ line. ¬ Is line) line other also (subst Is here is_last))
-one_first {Is} (line ∷ front) [] last end rest behind none also is_last is_end same =
+    absurd (All-head (λ line. ¬ IsEndLine line) line other also (subst IsEndLine here is_last))
+one_first (line ∷ front) [] last end rest behind none also is_last is_end same =
     let here : line ≡ end = cc in
-    absurd (All-head (λ line. ¬ Is line) line front none (subst Is (sym here) is_end))
-one_first {Is} (line ∷ front) (further ∷ other) last end rest behind none also is_last is_end same =
+    absurd (All-head (λ line. ¬ IsEndLine line) line front none (subst IsEndLine (sym here) is_end))
+one_first (line ∷ front) (further ∷ other) last end rest behind none also is_last is_end same =
     let behind_first : front ++ last ∷ rest ≡ other ++ end ∷ behind = cc in
-    one_first front other last end rest behind (All-tail (λ line. ¬ Is line) line front none) (All-tail (λ line. ¬ Is line) further other also) is_last is_end behind_first
+    one_first front other last end rest behind (All-tail (λ line. ¬ IsEndLine line) line front none) (All-tail (λ line. ¬ IsEndLine line) further other also) is_last is_end behind_first
 
-is_among : {Is : List ℕ → Type 0} (front : List (List ℕ)) (last : List ℕ) (rest : List (List ℕ)) → All (λ line. ¬ Is line) (front ++ last ∷ rest) → Is last → ⊥
-is_among {Is} [] last rest none is = All-head (λ line. ¬ Is line) last rest none is
-is_among {Is} (line ∷ front) last rest none is = is_among front last rest (All-tail (λ line. ¬ Is line) line (front ++ last ∷ rest) none) is
+is_among : (front : List (List ℕ)) (last : List ℕ) (rest : List (List ℕ)) → All (λ line. ¬ IsEndLine line) (front ++ last ∷ rest) → IsEndLine last → ⊥
+is_among [] last rest none is = All-head (λ line. ¬ IsEndLine line) last rest none is
+is_among (line ∷ front) last rest none is = is_among front last rest (All-tail (λ line. ¬ IsEndLine line) line (front ++ last ∷ rest) none) is
 
 -- the lines of a text that is cut, in one list
 whole_lines : (text : List ℕ) (at : ℕ) (cut : IsBehindEnd text at) → lines_of text ≡ cut.front ++ cut.last ∷ lines_of (drop at text)
