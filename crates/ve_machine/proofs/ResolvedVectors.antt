@@ -69,7 +69,7 @@ module _ (T : ActionTable) (sound : IsSound T) where
       All-weaker (λ (t : ℕ × ℕ). IsLive T t.0) (λ (t : ℕ × ℕ). t.0 < length T.words) (λ t is. subst (λ n. t.0 < n) sound.one_forward_each (slice_get_within T.forwards t.0 None is)) w live
 
   -- a lower id's word isn't after
-  lower_not_after : (u : Word) (a b : ℕ) → a ≤ b → (b < length T.words) × IsNotAfter (presented T) (word_at T b) u → (a < length T.words) × IsNotAfter (presented T) (word_at T a) u
+  pub lower_not_after : (u : Word) (a b : ℕ) → a ≤ b → (b < length T.words) × IsNotAfter (presented T) (word_at T b) u → (a < length T.words) × IsNotAfter (presented T) (word_at T a) u
   lower_not_after u a b le here = (omega (arith, le, here.0), IsNotAfter-trans (presented T) (word_at T a) (word_at T b) u (cases (cases_lt a b)) here.1)
     where
       cases : (a < b) ⊎ (b ≤ a) → IsNotAfter (presented T) (word_at T a) (word_at T b)

@@ -77,7 +77,7 @@ module _ (O T : ActionTable) (sound : IsSound O) (under : IsUnderWay O T) where
       Reaches : Word → Type 0
       Reaches u = reach P u ≤ O.level
 
-  next_traced : (w : Word) (v : Row) (x : ℕ) → x < letter_count P → reach P (times w x) ≤ O.level → IsTraced O T.forwards w v → IsTraced O T.forwards (times w x) (vector_times (row_at T) v x)
+  pub next_traced : (w : Word) (v : Row) (x : ℕ) → x < letter_count P → reach P (times w x) ≤ O.level → IsTraced O T.forwards w v → IsTraced O T.forwards (times w x) (vector_times (row_at T) v x)
   unfolding products times_letter
   next_traced w v x letter within traced = record {
     known = known_on O T.forwards (unit (times w x)) (extended (products x) v) (element_of O (vector_times (row_at T) v x)) positive multiplied_known rows_known;

@@ -3,3 +3,8 @@ pub mod Finished
 pub mod Known
 pub mod Jobs
 pub mod Laws
+pub mod Seats
+pub mod SharedJobs
+pub mod SharedSteps
+pub mod Covered
+pub mod SharedLaws

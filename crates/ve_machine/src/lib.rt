@@ -4,4 +4,6 @@
 
 pub mod finished;
 pub mod forwards;
+pub mod quiescence;
+pub mod seats;
 pub mod work;
