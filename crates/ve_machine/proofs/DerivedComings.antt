@@ -77,10 +77,10 @@ module _ (O : ActionTable) (forwards : Forwards) (rows : List (List (Option Row)
   positive : 0 < p
   positive = positive_prime O sound
 
-  abbrev forwarded : ActionTable
+  abbrev pub forwarded : ActionTable
   forwarded = record O { forwards = forwards }
 
-  forwarded_sound : IsSound forwarded
+  pub forwarded_sound : IsSound forwarded
   forwarded_sound = record {
     valid = sound.valid;
     words = sound.words;
@@ -96,7 +96,7 @@ module _ (O : ActionTable) (forwards : Forwards) (rows : List (List (Option Row)
     images = λ i v is. let one = sound.images i v is in record { stands = record { row = one.stands.row; derived = one.stands.derived }; not_after = one.not_after };
   }
 
-  forwarded_under_way : IsUnderWay O forwarded
+  pub forwarded_under_way : IsUnderWay O forwarded
   forwarded_under_way = record {
     draft = refl;
     level = refl;
@@ -118,13 +118,17 @@ module _ (O : ActionTable) (forwards : Forwards) (rows : List (List (Option Row)
 
   -- the values of image jobs
 
+  -- a lower id reaches no further
+  pub ids_below : (b c : ℕ) → c < b → b < length O.words → (c < length O.words) × (reach P (word_at O c) ≤ reach P (word_at O b))
+  ids_below b c less known = (omega (arith, less, known), before_reach P (word_at O c) (word_at O b) (sound.rising c b (generator 0) less known))
+
   stand_in_up_to : (b : ℕ) → b < length O.words → All (λ t. IsIdUpTo O (word_at O b) t.0) (stand_in forwards b)
   stand_in_up_to b known =
       All-weaker (λ (t : ℕ × ℕ). t.0 ≤ b) (λ (t : ℕ × ℕ). IsIdUpTo O (word_at O b) t.0) (λ t le. lower t.0 le (cases_lt t.0 b)) (stand_in forwards b)
       (stands_below forwards (are_falling forwarded forwarded_sound) b)
     where
       lower : (c : ℕ) → c ≤ b → (c < b) ⊎ (b ≤ c) → IsIdUpTo O (word_at O b) c
-      lower c le (inl less) = (omega (arith, less, known), before_reach P (word_at O c) (word_at O b) (sound.rising c b (generator 0) less known))
+      lower c le (inl less) = ids_below b c less known
       lower c le (inr past) = let same : c ≡ b = omega (arith, le, past) in subst (λ n. IsIdUpTo O (word_at O b) n) (sym same) (known, omega arith)
 
   stand_in_traced : (b : ℕ) → b < length O.words → IsTraced O forwards (word_at O b) (stand_in forwards b)

@@ -53,7 +53,7 @@ kept_where_id_dies O forwards b f positive live = record {
 }
 
 module _ (O : ActionTable) (old new : Forwards) (keeps : KeepsKnown O old new) where
-  image_kept : (b x : ℕ) → IsImageJob O old b x → image_value O new b x ≡ image_value O old b x
+  pub image_kept : (b x : ℕ) → IsImageJob O old b x → image_value O new b x ≡ image_value O old b x
   image_kept b x job =
       ap (λ v. difference (presented O).prime (row_or_zero (row_at O) x b) (vector_times (row_at O) v x))
       (dead_stands new b job.forward (keeps.dead b job.forward job.dead) ∙ sym (dead_stands old b job.forward job.dead))
@@ -80,7 +80,7 @@ module _ (O : ActionTable) (old new : Forwards) (keeps : KeepsKnown O old new) w
 
 -- so does what differs by forwards
 
-below_on : (O : ActionTable) (forwards : Forwards) (b x : ℕ) (u v w : Row) → 0 < (presented O).prime → IsKnownBelow O forwards b x (difference (presented O).prime u v)
+pub below_on : (O : ActionTable) (forwards : Forwards) (b x : ℕ) (u v w : Row) → 0 < (presented O).prime → IsKnownBelow O forwards b x (difference (presented O).prime u v)
     → IsForwarding (presented O).prime forwards (difference (presented O).prime v w) → IsKnownBelow O forwards b x (difference (presented O).prime u w)
 below_on O forwards b x u v w positive one other =
     let p : ℕ = (presented O).prime in

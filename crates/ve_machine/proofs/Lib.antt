@@ -3,13 +3,19 @@ pub mod CarriedRows
 pub mod CoveredSteps
 pub mod DerivedComings
 pub mod DrawnForwards
+pub mod ElementHands
+pub mod ElementJobs
 pub mod FinishedTables
 pub mod Forwardings
+pub mod FoundVectors
 pub mod Histories
+pub mod ImageJobs
 pub mod KeptKnown
 pub mod KnownElements
 pub mod LiveActions
 pub mod LiveLevels
+pub mod LowerForwardings
+pub mod MachineMoves
 pub mod NothingLeft
 pub mod OpeningLevels
 pub mod OwedRelations
@@ -21,6 +27,7 @@ pub mod RelatorWords
 pub mod Resolutions
 pub mod ResolvedVectors
 pub mod RewrittenRows
+pub mod RightHands
 pub mod RowsAtWork
 pub mod SettledSteps
 pub mod SharedLists

@@ -117,7 +117,7 @@ module _ (O T : ActionTable) (sound : IsSound O) (under : IsUnderWay O T) where
 
   -- an id, and a generator
 
-  id_traced : (b : ℕ) → b < length O.words → IsTraced O T.forwards (word_at O b) (unit b)
+  pub id_traced : (b : ℕ) → b < length O.words → IsTraced O T.forwards (word_at O b) (unit b)
   id_traced b known = record {
     known = Known-alike O T.forwards
         (SameWeights-sym (difference_vanishes p (unit (word_at O b)) (element_of O (unit b)) positive (SameWeights-sym (extended-unit p (λ j. unit (word_at O j)) b))))
@@ -125,7 +125,7 @@ module _ (O T : ActionTable) (sound : IsSound O) (under : IsUnderWay O T) where
     ids = All-unit (λ c. IsIdUpTo O (word_at O b) c) b (known, omega arith);
   }
 
-  image_traced : (i : ℕ) → i < P.generators → IsTraced O T.forwards (generator i) (slice_index_or O.images i [])
+  pub image_traced : (i : ℕ) → i < P.generators → IsTraced O T.forwards (generator i) (slice_index_or O.images i [])
   image_traced i inside =
       let there = slice_get-get_or O.images i [] (omega (arith, inside, sound.one_image_each)) in
       record {

@@ -8,3 +8,8 @@ pub mod SharedJobs
 pub mod SharedSteps
 pub mod Covered
 pub mod SharedLaws
+pub mod Hands
+pub mod HandSteps
+pub mod RightHands
+pub mod ImageHands
+pub mod Machines

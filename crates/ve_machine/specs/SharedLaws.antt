@@ -1,5 +1,5 @@
 -- What holds of the machine that seats share. Each law is the contract of the function of its name.
-use Rattle.std.specs.Prelude.{◌≡◌, ◌≢◌, ℕ, ◌++◌, All, Contains, List, slice_get}
+use Rattle.std.specs.Prelude.{◌≡◌, ◌≢◌, ◌⊎◌, ℕ, ◌++◌, All, Contains, List, slice_get}
 use Rattle.ve_theory.specs.Elements.{Element}
 use Rattle.ve_theory.specs.Answers.{Row}
 use Rattle.ve_theory.specs.Laws.{AreSameLevels}
@@ -11,6 +11,7 @@ use Rattle.ve_machine.specs.Jobs.{HasForward}
 use Rattle.ve_machine.specs.Finished.{IsFinishedTable, IsOpening, IsPacked}
 use Rattle.ve_machine.specs.Seats.{Death, Job, State, opened_state, present}
 use Rattle.ve_machine.specs.SharedSteps.{Leads, Step}
+use Rattle.ve_machine.specs.Machines.{Goes, IsRightMachine, Machine, Move, opened_machine}
 use Rattle.ve_machine.specs.Covered.{IsCovered, IsLegalHistory, IsQuiescent, IsSoundState}
 
 -- at the beginning
@@ -59,6 +60,19 @@ pub record GoesOn (S : State) (seat : ℕ) (T : State) : Type 0 where
 
 abbrev pub StepsGoOn : Type 0
 StepsGoOn = (S T : State) (seat : ℕ) → Step S seat T → GoesOn S seat T
+
+-- with hands
+
+-- A move is a step of the shared machine, or leaves it as it is, and keeps the machine right.
+pub record GoesRight (M : Machine) (seat : ℕ) (N : Machine) : Type 0 where
+  pub shared : Step M.shared seat N.shared ⊎ (N.shared ≡ M.shared)
+  pub machine : IsRightMachine N
+
+abbrev pub MovesGoRight : Type 0
+MovesGoRight = (M N : Machine) (seat : ℕ) → IsRightMachine M → Move M seat N → GoesRight M seat N
+
+abbrev pub MachinesStayRight : Type 0
+MachinesStayRight = (O : ActionTable) (seats : ℕ) (M : Machine) → IsSound O → IsPacked O → Goes (opened_machine O seats) M → IsRightMachine M
 
 -- at the end
 

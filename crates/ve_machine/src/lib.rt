@@ -4,6 +4,7 @@
 
 pub mod finished;
 pub mod forwards;
+pub mod hands;
 pub mod quiescence;
 pub mod seats;
 pub mod work;
