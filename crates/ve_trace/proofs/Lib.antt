@@ -1,6 +1,7 @@
 pub mod Vectors
 pub mod Adding
 pub mod Rows
+pub mod Spreading
 pub mod Tracings
 pub mod Terms
 pub mod Following

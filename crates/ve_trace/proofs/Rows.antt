@@ -12,10 +12,10 @@ use Rattle.ve_trace.proofs.Adding.{added, added_once, itself}
 
 -- parts of vectors
 
-part-none : (at : ℕ) (v : Combination ℕ) → part at at v ≡ []
+pub part-none : (at : ℕ) (v : Combination ℕ) → part at at v ≡ []
 part-none at v = let e : at - at ≡ 0 = omega arith in ap (λ n. take n (drop at v)) e
 
-part-more : (from at : ℕ) (v : Combination ℕ) (t : ℕ × ℕ) → from ≤ at → slice_get v at ≡ Some t → part from (at + 1) v ≡ part from at v ++ t ∷ []
+pub part-more : (from at : ℕ) (v : Combination ℕ) (t : ℕ × ℕ) → from ≤ at → slice_get v at ≡ Some t → part from (at + 1) v ≡ part from at v ++ t ∷ []
 part-more from at v t le e =
     let within : at < length v = slice_get_within v at t e in
     let count : (at + 1) - from ≡ (at - from) + 1 = omega arith in
@@ -61,7 +61,7 @@ sum_none p rows v s x at none reduced =
     let Q : Combination ℕ → Type 0 = λ w. IsReducedOf ◌<◌ nat_eq p s w in
     subst P (sym (part-none at v)) (subst Q none (itself reduced))
 
-one_more : (rows : PartialTable) (v row : Combination ℕ) (x b c : ℕ) → rows b x ≡ Some row → vector_times rows (v ++ (b, c) ∷ []) x ≡ vector_times rows v x ++ scaled c row
+pub one_more : (rows : PartialTable) (v row : Combination ℕ) (x b c : ℕ) → rows b x ≡ Some row → vector_times rows (v ++ (b, c) ∷ []) x ≡ vector_times rows v x ++ scaled c row
 unfolding extended
 one_more rows v row x b c known =
     extended-append (row_or_zero rows x) v ((b, c) ∷ [])

@@ -3,6 +3,7 @@
 
 pub mod laws;
 mod multiples;
+mod spread;
 mod steps;
 mod sums;
 mod times;

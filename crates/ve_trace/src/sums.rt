@@ -3,18 +3,20 @@
 ghost use Rattle.std.specs.Prelude.{◌≡◌, ◌≢◌, ◌<◌, ◌≤◌, None, Some, IfOk, length, nat_eq};
 ghost use Rattle.ve_theory.specs.Combinations.{IsReduced, IsReducedOf};
 ghost use Rattle.ve_vec.specs.Tracing.{AreReduced, vector_times};
-ghost use Rattle.ve_trace.specs.Parts.{HasRows, part};
+ghost use Rattle.ve_trace.specs.Parts.{AreRowsBetween, HasRows, part};
 
+use crate::spread::{Spread, spread_of_rows};
 use std::alloc::Global;
 use ve_field::Field;
-use ve_vec::{Rows, Sparse};
+use ve_vec::{DenseSum, Rows, Sparse};
 use ve_word::Memory;
 
 /// Up to how many rows are added one after another, whether they overlap or not.
-const FEW: usize = 16;
+const FEW: usize = 8;
 
-/// The sum of the rows at a letter that the ids of some terms have, each times its coefficient. Of many rows that overlap,
-/// halves are added up first, since each addition costs the length of the sum.
+/// The sum of the rows at a letter that the ids of some terms have, each times its coefficient. Many rows that overlap are added
+/// up over the span of their ids where that is not much longer than they are. Else halves are added up first, since each addition
+/// costs the length of the sum.
 pub(crate) fn sum_of_rows<R: Rows>(
     alloc: Global,
     rows: &R,
@@ -31,8 +33,15 @@ pub(crate) fn sum_of_rows<R: Rows>(
     requires within { to ≤ length vector.now }
     ensures { IfOk result (λ v. IsReducedOf ◌<◌ nat_eq field.now v (vector_times (R.rows rows.now) (part from to vector.now) letter)) }
 {
-    if to - from <= FEW || rows_fall(rows, vector, letter, from, to) {
+    if to - from <= FEW {
         return sum_in_order(alloc, rows, field, vector, letter, from, to);
+    }
+    let spread = spread_of_rows(rows, vector, letter, from, to);
+    if spread.falls() {
+        return sum_in_order(alloc, rows, field, vector, letter, from, to);
+    }
+    if spread.is_dense() {
+        return sum_over_span(alloc, rows, field, vector, letter, from, to, &spread);
     }
     let middle = from + (to - from) / 2;
     let mut sum = sum_of_rows(alloc, rows, field, vector, letter, from, middle)?;
@@ -66,22 +75,30 @@ fn sum_in_order<R: Rows>(
     Ok(sum)
 }
 
-/// Whether the ids fall from row to row too, so that each row is appended to the sum of those before it.
-fn rows_fall<R: Rows>(rows: &R, vector: &Sparse, letter: u8, from: usize, to: usize) -> bool
+/// The same, where the rows are added up over the span of their ids.
+fn sum_over_span<R: Rows>(
+    alloc: Global,
+    rows: &R,
+    field: &Field,
+    vector: &Sparse,
+    letter: u8,
+    from: usize,
+    to: usize,
+    spread: &Spread,
+) -> Result<Sparse, Memory>
     requires found { HasRows (R.rows rows.now) vector.now letter }
+    requires order { from ≤ to }
     requires within { to ≤ length vector.now }
+    requires span { spread.now.low ≤ spread.now.high }
+    requires between { AreRowsBetween (R.rows rows.now) vector.now letter from to spread.now.low spread.now.high }
+    ensures { IfOk result (λ v. IsReducedOf ◌<◌ nat_eq field.now v (vector_times (R.rows rows.now) (part from to vector.now) letter)) }
 {
-    let mut end = u32::MAX;
+    let mut sum = DenseSum::new(alloc, spread.low, spread.high)?;
     for at in from..to {
-        let row = row_at(rows, vector.term(at).id, letter);
-        if let Some(leading) = row.leading() {
-            if leading.id >= end {
-                return false;
-            }
-            end = row.term(row.len() - 1).id;
-        }
+        let term = vector.term(at);
+        sum.add_scaled(field, term.coef, row_at(rows, term.id, letter));
     }
-    true
+    sum.into_sparse(field)
 }
 
 /// The row of an id at a letter, which has one.

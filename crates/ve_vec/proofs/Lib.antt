@@ -10,3 +10,4 @@ pub mod Numbering
 pub mod Ids
 pub mod Residues
 pub mod Substituting
+pub mod Spanning

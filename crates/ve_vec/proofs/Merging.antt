@@ -21,7 +21,7 @@ pub at_key : (p : ℕ) (q : Bool) (c d : ℕ) → c % p ≡ d % p → cond q c 0
 at_key p true c d same = same
 at_key p false c d same = refl
 
-at_key-add : (p : ℕ) (q : Bool) (c a b : ℕ) → c % p ≡ (a + b) % p → cond q c 0 % p ≡ (cond q a 0 + cond q b 0) % p
+pub at_key-add : (p : ℕ) (q : Bool) (c a b : ℕ) → c % p ≡ (a + b) % p → cond q c 0 % p ≡ (cond q a 0 + cond q b 0) % p
 at_key-add p true c a b same = same
 at_key-add p false c a b same = refl
 

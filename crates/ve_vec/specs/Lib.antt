@@ -1,3 +1,4 @@
 pub mod Terms
 pub mod Vectors
 pub mod Tracing
+pub mod Spans

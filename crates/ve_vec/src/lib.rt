@@ -1,6 +1,7 @@
 //! Sparse vectors over a prime field.
 #![tactic(auto)]
 
+mod dense;
 mod insert;
 mod merge;
 mod number;
@@ -9,6 +10,7 @@ mod search;
 mod sparse;
 mod term;
 
+pub use dense::DenseSum;
 pub use rows::Rows;
 pub use sparse::Sparse;
 pub use term::Term;

@@ -55,6 +55,14 @@ impl Sparse {
         Sparse { terms }
     }
 
+    /// The vector of these terms.
+    pub(crate) fn from_terms(terms: SmallVec<Term, 4>) -> Sparse
+        requires { IsVector (pairs terms.items) }
+        ensures { result ≡ pairs terms.items }
+    {
+        Sparse { terms }
+    }
+
     /// Whether each coefficient is a residue of the field.
     pub fn fits(&self, field: &Field) -> bool
         ensures residues { IsTrue result ↔ All (λ t. t.1 < field.now) self.now }

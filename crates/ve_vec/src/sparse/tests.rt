@@ -2,7 +2,7 @@ ghost use Rattle.std.specs.Prelude.{◌≡◌, ◌<◌, IfOk, length};
 ghost use Rattle.ve_theory.specs.Combinations.{IsReduced};
 
 use super::*;
-use crate::Rows;
+use crate::{DenseSum, Rows};
 use std::test::Fail;
 
 /// The vector of two terms.
@@ -66,6 +66,23 @@ fn adds_a_multiple(rt: HostRuntime) -> Result<(), Fail> {
     assert!(rt; is_vector(&v, &[(3, 1), (2, 2)]));
     assert_eq!(rt; v.leading(), Some(term(3, 1)));
     assert_eq!(rt; (v.coef_of(2), v.coef_of(7)), (2, 0));
+    Ok(())
+}
+
+#[test]
+fn sums_over_a_span(rt: HostRuntime) -> Result<(), Fail> {
+    let alloc = rt.alloc();
+    let Some(field) = Field::new(5) else {
+        panic!(rt; "5 is a prime");
+    };
+    let first = Sparse::unit(alloc, 3);
+    let second = Sparse::unit(alloc, 7);
+    let mut sum = DenseSum::new(alloc, 2, 7)?;
+    sum.add_scaled(&field, 2, &first);
+    sum.add_scaled(&field, 4, &second);
+    sum.add_scaled(&field, 3, &first);
+    let sum = sum.into_sparse(&field)?;
+    assert!(rt; is_vector(&sum, &[(7, 4)]));
     Ok(())
 }
 
