@@ -21,3 +21,5 @@ pub mod Counting
 pub mod NextLevel
 pub mod Grown
 pub mod AllLive
+pub mod ByLetter
+pub mod TakingApart

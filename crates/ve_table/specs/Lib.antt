@@ -10,3 +10,5 @@ pub mod Births
 pub mod Rows
 pub mod Growth
 pub mod Kept
+pub mod ByLetter
+pub mod Parts

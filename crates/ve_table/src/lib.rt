@@ -2,13 +2,16 @@
 #![tactic(auto)]
 
 mod birth;
+mod by_letter;
 mod entry;
 mod origin;
+mod parts;
 mod reaches;
 mod rows;
 mod table;
 
 pub use origin::Origin;
+pub use parts::Parts;
 pub use table::{Short, Table};
 
 #[cfg(test)]

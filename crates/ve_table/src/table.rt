@@ -14,6 +14,7 @@ ghost use Rattle.ve_table.specs.Steps.{live_steps};
 mod changes;
 mod drop_dead;
 mod grow;
+mod into_parts;
 mod open;
 
 use crate::Origin;
