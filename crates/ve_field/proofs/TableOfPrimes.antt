@@ -1,25 +1,18 @@
 -- What is known of each prime of the table, by computing it, and what a search of the table finds.
-use Rattle.std.proofs.Common.{◌≢◌, ◌∙◌, ap, sym, ◌≡◌, ◌≢◌, ℕ, suc, zero, ◌*◌, ◌-◌, ◌%◌, ◌^◌, ◌<◌, ◌≤◌, ◌⊎◌, inl, inr, cond, eqb, Bool, true, false, Option, Some, None, List, [], ◌∷◌, length, nat_lt, slice_index_or, refl, arith, sym, ◌∙◌, eq-eqb}
+use Rattle.std.proofs.Common.{◌≢◌, ◌∙◌, ap, sym, ◌≡◌, ◌≢◌, ℕ, suc, zero, ◌*◌, ◌-◌, ◌%◌, ◌^◌, ◌<◌, ◌≤◌, ◌⊎◌, inl, inr, cond, eqb, Bool, true, false, Option, Some, None, List, [], ◌∷◌, length, slice_index_or, refl, arith, sym, ◌∙◌, eq-eqb}
 use Rattle.std.specs.Prelude.{◌==◌, ◌&&◌, find, Contains}
 use Rattle.std.specs.List.{list_all}
 use Rattle.std.proofs.Math.Nat.{mod-eq_of_lt, zero-mod, one-mul, zero-mul}
 use Rattle.std.proofs.lemmas.Nat.{mul-mod_first}
 use Rattle.std.proofs.lemmas.List.Sums.{AllPass-from_list_all}
 use Rattle.std.proofs.lemmas.List.Elements.{All-contains}
-use Rattle.std.proofs.lemmas.Bool.{and_parts, eqb-true, ltb-true}
+use Rattle.std.proofs.lemmas.Bool.{and_parts, eqb-true}
 use Rattle.ve_theory.specs.Residues.{primes, IsFieldPrime}
 
 -- what a test finds of each prime of the table
 pass : (test : ℕ → Bool) (p : ℕ) → list_all test primes ≡ true → IsFieldPrime p → test p ≡ true
 pass test p computed prime =
     All-contains (λ q. test q ≡ true) primes p (AllPass-from_list_all test primes computed) prime
-
-all_above_one : list_all (nat_lt 1) primes ≡ true
-unfolding primes
-all_above_one = refl
-
-pub above_one : (p : ℕ) → IsFieldPrime p → 1 < p
-above_one p prime = ltb-true 1 p (pass (nat_lt 1) p all_above_one prime)
 
 -- each number from 1 to n times its power with the exponent q - 2 has the residue 1
 inverts_below : ℕ → ℕ → Bool

@@ -16,7 +16,8 @@ use Rattle.ve_formats.specs.AnswerText.{numbered, row_entries}
 use Rattle.ve_formats.specs.AnswerReading as places
 use Rattle.ve_formats.specs.AnswerReading.{AreNames, Draft, Place, Grows, a_generator, a_child, Fills, a_version, a_prime, some_names, some_generators, a_level, a_dimension, a_word, an_image, a_letter, a_row, the_end, FillAll, FailAt, misfit, too_few, too_many, later, opened}
 use Rattle.ve_theory.proofs.Reduced.{All_from_AllBefore}
-use Rattle.ve_formats.proofs.SameNames.{same_letters-true, same_letters-false}
+use Rattle.ve_lemmas.proofs.Words.{same_letters-true}
+use Rattle.ve_formats.proofs.SameNames.{same_letters-false}
 use Rattle.ve_formats.proofs.SpacedPieces.{Lacks, fronts_once, pieces_once, after_space-cut, decimal_lacks, words_once, IsWritten}
 use Rattle.ve_formats.proofs.AnswerRows.{length-numbers_below, number_at, absent, small}
 use Rattle.ve_formats.proofs.AnswerSteps.{version_filled, prime_filled, names_filled, generators_filled, level_filled, dimension_filled, word_filled, image_filled, letter_filled, row_filled, end_filled, IsKept, IsOnTheWay, grown_written, names_lack}

@@ -8,9 +8,9 @@ use Rattle.std.proofs.lemmas.Option.{slice_get-get_or}
 use Rattle.ve_theory.specs.Words.{Word, generator, times, start, letters}
 use Rattle.ve_theory.specs.Answers as answers
 use Rattle.ve_theory.specs.Answers.{Answer, Row, IsRow, IsGrown, none, with_generator, with_child}
+use Rattle.ve_lemmas.proofs.Lists.{All-last}
 use Rattle.ve_formats.specs.WordText.{word_text}
 use Rattle.ve_formats.specs.AnswerText.{image_line, row_line, answer_lines, head_lines, basis_lines, image_lines, letter_lines, matrix_lines}
-use Rattle.ve_formats.proofs.SpacedPieces.{All-last}
 use Rattle.ve_formats.specs.AnswerReading as places
 use Rattle.ve_formats.specs.AnswerReading.{IsWritable, ShowsAnswer, Draft, Place, blank_draft, head_places, body_places, matrix_places, Grows, a_generator, a_child, with_row, Fills, a_version, a_prime, some_names, some_generators, a_level, a_dimension, a_word, an_image, a_letter, a_row, the_end, FillAll, one, opened, answer_in}
 

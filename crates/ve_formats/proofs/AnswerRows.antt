@@ -3,12 +3,12 @@ use Rattle.std.proofs.Common.{◌≡◌, ℕ, zero, suc, ◌+◌, ◌%◌, ◌^�
 use Rattle.std.specs.Prelude.{nat_eq, map, decimal}
 use Rattle.std.proofs.lemmas.Bool.{ne_eqb, cases_lt, cases_Bool, cond-false, cond-true, eqb-true}
 use Rattle.std.proofs.lemmas.List.{get_or-map, get_or_append_left, get_or-append-add, length-append, length-map}
-use Rattle.std.proofs.lemmas.List.Elements.{All-head, All-tail}
 use Rattle.std.proofs.lemmas.Fmt.{decimal_injective}
 use Rattle.ve_theory.specs.Residues.{Congruent}
 use Rattle.ve_theory.specs.Combinations.{coefficient, IsReduced, AllBefore}
 use Rattle.ve_theory.specs.Answers.{Row, IsRow}
 use Rattle.ve_theory.specs.Laws.{ReducedListsAreUnique}
+use Rattle.ve_lemmas.proofs.Sums.{AllBefore_from_All}
 use Rattle.ve_formats.specs.Lines.{numbers_below}
 use Rattle.ve_formats.specs.AnswerText.{row_entries}
 use Rattle.ve_formats.proofs.SpacedPieces.{Lacks, pieces_once, decimal_lacks}
@@ -47,11 +47,6 @@ small p (t ∷ v) reduced k =
       | inr other ↦ omega (arith, cond-false (nat_eq t.0 k) t.1 0 other, small p v reduced.3 k)
     ]
 
-pub bounded : (n : ℕ) (v : Row) → All (λ t. t.0 < n) v → AllBefore ◌<◌ n v
-unfolding AllBefore
-bounded n [] all = tt
-bounded n (t ∷ v) all = (All-head (λ t. t.0 < n) t v all, bounded n v (All-tail (λ t. t.0 < n) t v all))
-
 -- ---- one row
 
 module _ (unique : ReducedListsAreUnique) (p n : ℕ) (small_prime : p < 2 ^ 32) (u v : Row) (hu : IsRow p n u) (hv : IsRow p n v) where
@@ -86,5 +81,5 @@ module _ (unique : ReducedListsAreUnique) (p n : ℕ) (small_prime : p < 2 ^ 32)
       alike : (k : ℕ) → Congruent p (coefficient nat_eq u k) (coefficient nat_eq v k)
       alike k = elim (cases_lt k n) [
         | inl less ↦ ap (λ c. c % p) (same k less)
-        | inr above ↦ ap (λ c. c % p) (absent n u (bounded n u hu.1) k above ∙ sym (absent n v (bounded n v hv.1) k above))
+        | inr above ↦ ap (λ c. c % p) (absent n u (AllBefore_from_All ◌<◌ n u hu.1) k above ∙ sym (absent n v (AllBefore_from_All ◌<◌ n v hv.1) k above))
       ]

@@ -11,10 +11,10 @@ abbrev DeepBehind : ℕ → ℕ → List Token → Type 0
 DeepBehind closed opened tokens =
     (front back : List Token) × (tokens ≡ front ++ back) × (closed + count_by (is_sign 41) front + most_open < opened + count_by (is_sign 40) front)
 
-one_if : ℕ → Token → ℕ
+pub one_if : ℕ → Token → ℕ
 one_if b t = cond (is_sign b t) 1 0
 
-count-cons : (b : ℕ) (t : Token) (tokens : List Token) → count_by (is_sign b) (t ∷ tokens) ≡ one_if b t + count_by (is_sign b) tokens
+pub count-cons : (b : ℕ) (t : Token) (tokens : List Token) → count_by (is_sign b) (t ∷ tokens) ≡ one_if b t + count_by (is_sign b) tokens
 unfolding one_if
 count-cons b t tokens = sum_by-cons (one_if b) t tokens
 

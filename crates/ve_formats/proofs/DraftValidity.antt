@@ -105,7 +105,7 @@ valid_of draft readable s =
 
 -- room, while there are letters alone
 
-inverse_cells : (p x : ℕ) (inverses : List (Option ℕ)) → sum_by algebra_cells (inverse_relators p x inverses) ≤ 4 * length inverses
+pub inverse_cells : (p x : ℕ) (inverses : List (Option ℕ)) → sum_by algebra_cells (inverse_relators p x inverses) ≤ 4 * length inverses
 unfolding inverse_relators
 inverse_cells p x [] = omega arith
 inverse_cells p x (None ∷ inverses) = let rest = inverse_cells p (x + 1) inverses in omega (arith, rest)

@@ -8,18 +8,17 @@ use Rattle.ve_theory.specs.Words.{same_letters}
 use Rattle.ve_theory.specs.Elements.{AlgebraElement}
 use Rattle.ve_theory.specs.Presentations.{Presentation}
 use Rattle.ve_theory.specs.Laws.{ReducedListsAreUnique}
+use Rattle.ve_lemmas.proofs.Words.{same_letters-true}
+use Rattle.ve_lemmas.proofs.Lists.{Contains-slice_get}
 use Rattle.ve_formats.specs.Causes as why
 use Rattle.ve_formats.specs.Causes.{Cause}
 use Rattle.ve_formats.specs.Expressions.{Expression, constant, letter, grouped, power, inverse_power, product, opposite, sum, difference}
 use Rattle.ve_formats.specs.Once.{ExactlyOne}
 use Rattle.ve_formats.specs.Values.{IsReadable, HasNumber, HasInverse, HasValue, HasPower, most_exponent, of_constant, of_letter, of_unknown, of_group, of_power, of_large_power, of_faulty_base, of_inverse_power, of_large_inverse_power, of_no_inverse, of_faulty_inverse_base, of_product, of_product_left, of_product_right, of_opposite, of_faulty_opposite, of_sum, of_sum_left, of_sum_right, of_difference, of_difference_left, of_difference_right}
-use Rattle.ve_formats.proofs.SameNames.{same_letters-true, same_letters-false}
+use Rattle.ve_formats.proofs.SameNames.{same_letters-false}
 use Rattle.ve_formats.proofs.ElementSums.{one_list, one_sum, one_product, one_power, after, prime_positive}
 
 -- the places of names
-
-pub Contains-slice_get : (names : List (List ℕ)) (x : List ℕ) (i : ℕ) → slice_get names i ≡ Some x → Contains names x
-Contains-slice_get names x i h = (i, slice_get_within names i x h, get_or_from_slice_get names i x x h)
 
 abbrev pub Placed : List (List ℕ) → List ℕ → Type 0
 Placed names x = ((i : ℕ) × (slice_get names i ≡ Some x)) ⊎ (Contains names x → ⊥)

@@ -1,7 +1,6 @@
 -- The half of a value is a value, and its own half.
-use Rattle.std.proofs.Common.{◌≡◌, ℕ, ◌+◌, ◌-◌, ◌/◌, ◌<◌, ◌≤◌, ◌⊎◌, inl, inr, List, [], ◌∷◌, ◌++◌, length, take, drop, All, Option, Some, None, refl, sym, subst, ap, ap₂, ◌∙◌, length-append, append-nil, arith}
+use Rattle.std.proofs.Common.{◌≡◌, ℕ, ◌+◌, ◌-◌, ◌/◌, ◌<◌, ◌≤◌, ◌⊎◌, inl, inr, List, [], ◌∷◌, ◌++◌, length, take, drop, All, Option, Some, None, refl, sym, subst, ap, ◌∙◌, length-append, arith}
 use Rattle.std.specs.Prelude.{slice_get}
-use Rattle.std.proofs.Math.Seq.{take-length}
 use Rattle.std.proofs.lemmas.List.{length-take-le, length-drop}
 use Rattle.std.proofs.lemmas.List.Elements.{All-nil, All-cons, All-head, All-tail, All-append, All-push, All-take}
 use Rattle.ve_theory.specs.Combinations.{AllBefore, IsReduced}
@@ -9,6 +8,7 @@ use Rattle.ve_theory.specs.Words.{ShortlexLetters}
 use Rattle.ve_theory.specs.Elements.{AlgebraElement, IsAlgebraElementOf, inverse_of_letters, halved}
 use Rattle.ve_theory.specs.Presentations.{Presentation, letter_count}
 use Rattle.ve_theory.specs.Laws.{ReducedListsAreUnique}
+use Rattle.ve_lemmas.proofs.Halves.{inverted, own_half}
 use Rattle.ve_formats.specs.Values.{IsReadable, IsAlgebraValue}
 use Rattle.ve_formats.proofs.ElementSums.{prime_positive}
 use Rattle.ve_formats.proofs.KeptTerms.{letters_kept, terms_kept}
@@ -16,32 +16,15 @@ use Rattle.ve_formats.proofs.ValueElements.{IsShort, collected_value, keys_of}
 
 -- the inverse of letters
 
-record Inverted (inverses : List (Option ℕ)) (x : ℕ) (u inverse : List ℕ) : Type 0 where
-  first : ℕ
-  later : List ℕ
-  letter : slice_get inverses x ≡ Some (Some first)
-  rest : inverse_of_letters inverses u ≡ Some later
-  whole : inverse ≡ later ++ first ∷ []
-
-inverted : (inverses : List (Option ℕ)) (x : ℕ) (u inverse : List ℕ) → inverse_of_letters inverses (x ∷ u) ≡ Some inverse → Inverted inverses x u inverse
-unfolding inverse_of_letters
-inverted inverses x u inverse e = by_parts (slice_get inverses x) (inverse_of_letters inverses u) refl refl
-  where
-    by_parts : (o : Option (Option ℕ)) (q : Option (List ℕ)) → slice_get inverses x ≡ o → inverse_of_letters inverses u ≡ q → Inverted inverses x u inverse
-    by_parts None q f g = absurd (cc)
-    by_parts (Some None) q f g = absurd (cc)
-    by_parts (Some (Some y)) None f g = absurd (cc)
-    by_parts (Some (Some y)) (Some v) f g = record { first = y; later = v; letter = f; rest = g; whole = cc }
-
 module _ (n : ℕ) (inverses : List (Option ℕ)) (below : (x y : ℕ) → slice_get inverses x ≡ Some (Some y) → y < n) where
   inverse_letters : (u inverse : List ℕ) → inverse_of_letters inverses u ≡ Some inverse → (length inverse ≡ length u) × All (λ y. y < n) inverse
   unfolding inverse_of_letters
   inverse_letters [] inverse e = let none : [] ≡ inverse = (cc) in (ap length (sym none), subst (λ v. All (λ y. y < n) v) none (All-nil (λ y. y < n)))
   inverse_letters (x ∷ u) inverse e =
       let i = inverted inverses x u inverse e in
-      let later = inverse_letters u i.later i.rest in
-      let long : length (i.later ++ i.first ∷ []) ≡ length i.later + 1 = length-append i.later (i.first ∷ []) in
-      (ap length i.whole ∙ omega (arith, long, later.0), subst (λ v. All (λ y. y < n) v) (sym i.whole) (All-push (λ y. y < n) i.later i.first later.1 (below x i.first i.letter)))
+      let later = inverse_letters u i.v i.rest in
+      let long : length (i.v ++ i.y ∷ []) ≡ length i.v + 1 = length-append i.v (i.y ∷ []) in
+      (ap length i.whole ∙ omega (arith, long, later.0), subst (λ v. All (λ y. y < n) v) (sym i.whole) (All-push (λ y. y < n) i.v i.y later.1 (below x i.y i.letter)))
 
 -- an element is its own half, or is cut
 
@@ -66,24 +49,6 @@ half_cases inverses (s ∷ t ∷ []) = by_inverse (inverse_of_letters inverses (
     by_inverse : (o : Option (List ℕ)) → inverse_of_letters inverses (drop (kept s.0 t.0) s.0) ≡ o → (halved inverses (s ∷ t ∷ []) ≡ s ∷ t ∷ []) ⊎ IsCut inverses (s ∷ t ∷ [])
     by_inverse None e = inl (rw e refl)
     by_inverse (Some inverse) e = inr (record { first = s; second = t; are = refl; inverse = inverse; is_inverse = e; half = rw e refl })
-
--- words whose lengths differ by at most 1 are their own half
-drop_all : (v : List ℕ) → drop (length v) v ≡ []
-drop_all [] = refl
-drop_all (x ∷ v) = drop_all v
-
-own_half : (inverses : List (Option ℕ)) (n : ℕ) (h : AlgebraElement) → length h ≤ 2 → All (λ t. (n ≤ length t.0) × (length t.0 ≤ n + 1)) h → halved inverses h ≡ h
-unfolding halved inverse_of_letters
-own_half inverses n [] few near = refl
-own_half inverses n (s ∷ []) few near = refl
-own_half inverses n (s ∷ t ∷ r ∷ v) few near = absurd (omega arith)
-own_half inverses n (s ∷ t ∷ []) few near =
-    let first : (n ≤ length s.0) × (length s.0 ≤ n + 1) = All-head (λ (t : List ℕ × ℕ). (n ≤ length t.0) × (length t.0 ≤ n + 1)) s (t ∷ []) near in
-    let second : (n ≤ length t.0) × (length t.0 ≤ n + 1) =
-    All-head (λ (t : List ℕ × ℕ). (n ≤ length t.0) × (length t.0 ≤ n + 1)) t [] (All-tail (λ (t : List ℕ × ℕ). (n ≤ length t.0) × (length t.0 ≤ n + 1)) s (t ∷ []) near) in
-    let all : kept s.0 t.0 ≡ length s.0 = omega arith in
-    let none : inverse_of_letters inverses (drop (kept s.0 t.0) s.0) ≡ Some [] = ap (λ k. inverse_of_letters inverses (drop k s.0)) all ∙ ap (inverse_of_letters inverses) (drop_all s.0) in
-    rw none (ap₂ (λ u v. (u, s.1) ∷ (v, t.1) ∷ []) (ap (λ k. take k s.0) all ∙ take-length s.0) (append-nil t.0))
 
 shorter_second : (p : ℕ) (s t : List ℕ × ℕ) → IsReduced ShortlexLetters p (s ∷ t ∷ []) → length t.0 ≤ length s.0
 unfolding IsReduced AllBefore ShortlexLetters

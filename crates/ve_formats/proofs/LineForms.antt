@@ -3,6 +3,7 @@ use Rattle.std.proofs.Common.{◌≡◌, ◌≢◌, ℕ, Bool, true, false, not,
 use Rattle.std.specs.Prelude.{codes}
 use Rattle.std.proofs.lemmas.Bool.{eqb-true, and_parts, and_from, not-true}
 use Rattle.ve_theory.specs.Words.{same_letters}
+use Rattle.ve_lemmas.proofs.Words.{same_letters-true}
 use Rattle.ve_formats.specs.Tokens.{Token, name, number, symbol, number_value}
 use Rattle.ve_formats.specs.Expressions as algebra
 use Rattle.ve_formats.specs.Expressions.{Expression, Rank, Spell, equals_sign, open_sign, close_sign, plus_sign, minus_sign, times_sign, power_sign}
@@ -12,7 +13,6 @@ use Rattle.ve_formats.specs.PresentationLines.{Declared, Line, version, prime, p
 use Rattle.ve_formats.specs.Reading.{parsed}
 use Rattle.ve_formats.specs.ModuleReading.{module_parsed}
 use Rattle.ve_formats.specs.LineReading.{Sides, is_equals, before_sides, sides, Keyword, of_version, of_prime, of_letter, of_involution, of_generators, of_balance, of_relation, of_submodule, of_end, of_nothing, keyword_bytes, first_of, keywords, keyword, Taken, unweighted, with_weight, take_weight, take_declared, one_number, alone, declared_alone, letter_or_pair, letters_form, two, equation, form_behind, form_of}
-use Rattle.ve_formats.proofs.SameNames.{same_letters-true}
 use Rattle.ve_formats.proofs.Parsing.{parsed-spelled}
 use Rattle.ve_formats.proofs.ParsedSpelling.{spelled-parsed}
 use Rattle.ve_formats.proofs.ModuleParsing.{module_parsed-spelled}

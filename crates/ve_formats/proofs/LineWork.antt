@@ -7,6 +7,7 @@ use Rattle.ve_theory.specs.Presentations.{Presentation}
 use Rattle.ve_theory.specs.Laws.{ReducedListsAreUnique}
 use Rattle.ve_theory.specs.Validity.{most_letters, most_generators, most_relations, most_cells, is_rooted, algebra_cells, element_cells, cells}
 use Rattle.ve_theory.specs.Presentations.{most_weight}
+use Rattle.ve_lemmas.proofs.Lists.{Contains-slice_get}
 use Rattle.ve_formats.specs.Causes as why
 use Rattle.ve_formats.specs.Causes.{Cause, beyond}
 use Rattle.ve_formats.specs.Expressions as algebra
@@ -18,7 +19,7 @@ use Rattle.ve_formats.specs.Values.{IsReadable, HasValue}
 use Rattle.ve_formats.specs.ModuleValues.{HasModuleValue}
 use Rattle.ve_formats.specs.PresentationLines.{Declared, Line, version, prime, letter, pair, involution, generators, balance, relation, submodule, end, Draft, after_version, among_letters, after_generators, among_relations, after_end, weight_of, with_letter, with_first, Declares, free, rooted, taken, full, misweighed, IsRelatorOf, moved, with_relation, with_submodule, Works, takes_version, takes_prime, refuses_prime, takes_letter, refuses_letter, takes_involution, refuses_involution, takes_pair, refuses_first, refuses_second, takes_generators, refuses_generators, takes_balance, takes_end, takes_relation, refuses_count, refuses_value, refuses_room, takes_submodule, refuses_submodule_count, refuses_submodule_value, refuses_submodule_room}
 use Rattle.ve_formats.proofs.ElementSums.{one_list, after, prime_positive}
-use Rattle.ve_formats.proofs.ExpressionValues.{one_value, place, Placed, Contains-slice_get}
+use Rattle.ve_formats.proofs.ExpressionValues.{one_value, place, Placed}
 use Rattle.ve_formats.proofs.ModuleExpressionValues.{one_module_value}
 
 -- whether a number is in a list

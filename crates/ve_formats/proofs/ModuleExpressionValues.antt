@@ -8,6 +8,7 @@ use Rattle.ve_theory.specs.Words.{same_letters}
 use Rattle.ve_theory.specs.Elements.{Element, AlgebraElement, IsElementOf}
 use Rattle.ve_theory.specs.Presentations.{Presentation}
 use Rattle.ve_theory.specs.Laws.{ReducedListsAreUnique}
+use Rattle.ve_lemmas.proofs.Words.{same_letters-true}
 use Rattle.ve_formats.specs.Causes as why
 use Rattle.ve_formats.specs.Causes.{Cause}
 use Rattle.ve_formats.specs.Tokens.{number_value}
@@ -17,7 +18,7 @@ use Rattle.ve_formats.specs.Once.{ExactlyOne}
 use Rattle.ve_formats.specs.Values.{IsReadable, HasValue}
 use Rattle.ve_formats.specs.ModuleValues.{IsGenerator, multiple, HasModuleValue, of_zero, of_generator, of_unknown, of_product, of_product_left, of_product_right, of_opposite, of_faulty_opposite, of_sum, of_sum_left, of_sum_right, of_difference, of_difference_left, of_difference_right}
 use Rattle.ve_formats.proofs.Decimals.{number_value-decimal}
-use Rattle.ve_formats.proofs.SameNames.{same_letters-true, same_letters-false}
+use Rattle.ve_formats.proofs.SameNames.{same_letters-false}
 use Rattle.ve_formats.proofs.ElementSums.{one_module_list, one_module_sum, one_module_product, after, prime_positive}
 use Rattle.ve_formats.proofs.ExpressionValues.{one_value}
 

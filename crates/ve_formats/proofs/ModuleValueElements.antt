@@ -8,6 +8,9 @@ use Rattle.ve_theory.specs.Elements.{AlgebraElement, Element, IsElementOf, algeb
 use Rattle.ve_theory.specs.Presentations.{Presentation, letter_count, HasLetters, IsWord}
 use Rattle.ve_theory.specs.Laws.{ReducedListsAreUnique}
 use Rattle.ve_theory.specs.Validity.{most_terms, most_length}
+use Rattle.ve_lemmas.proofs.Words.{letters-times_all, start-times_all}
+use Rattle.ve_lemmas.proofs.Sums.{greatest-le, le-greatest}
+use Rattle.ve_lemmas.proofs.Products.{length-element_times, length-scaled}
 use Rattle.ve_formats.specs.Causes.{Cause}
 use Rattle.ve_formats.specs.ModuleExpressions.{ModuleExpression}
 use Rattle.ve_formats.specs.Values.{IsReadable, IsAlgebraValue}
@@ -15,7 +18,7 @@ use Rattle.ve_formats.specs.ModuleValues.{IsModuleValue, ModuleAddsUp, added, to
 use Rattle.ve_formats.specs.ModuleValues as modules
 use Rattle.ve_formats.proofs.ElementSums.{prime_positive}
 use Rattle.ve_formats.proofs.KeptTerms.{words_kept, module_terms_kept}
-use Rattle.ve_formats.proofs.SumTerms.{up_to_greatest, greatest_up_to, scaled_keys, length-scaled, start-times_all, letters-times_all, element_times_keys, length-element_times}
+use Rattle.ve_formats.proofs.SumTerms.{scaled_keys, element_times_keys}
 use Rattle.ve_formats.proofs.ValueElements.{is_value}
 
 -- a word of the presentation, and not too long
@@ -39,11 +42,11 @@ module _ (unique : ReducedListsAreUnique) (P : Presentation) (readable : IsReada
         reduced = h.reduced;
         words = All-weaker (λ (t : Word × ℕ). IsShortWord P t.0) (λ (t : Word × ℕ). IsWord P t.0) (λ t k. k.0) v all;
         terms = let kept : length v ≤ length e = module_terms_kept unique P.prime some (IsShortWord P) h in omega (arith, kept);
-        short = greatest_up_to word_length most_length v short;
+        short = greatest-le word_length most_length v short;
       }
 
   words_of : {v : Element} → IsModuleValue P v → All (λ t. IsShortWord P t.0) v
-  words_of {v} h = λ k d l. (h.words k d l, short (slice_index_or v k d).0 (up_to_greatest word_length v k d l))
+  words_of {v} h = λ k d l. (h.words k d l, short (slice_index_or v k d).0 (le-greatest word_length v k d l))
     where
       short : (w : Word) → word_length w ≤ element_length v → word_length w ≤ most_length
       short w k = omega (arith, k, h.short)
@@ -77,7 +80,7 @@ module _ (unique : ReducedListsAreUnique) (P : Presentation) (readable : IsReada
   module_product_value {u} {v} h k (multiplied w few short is) =
       let long : length (element_times u v) ≡ length u * length v = length-element_times u v in
       collected_module_value is (element_times_keys (IsShortWord P) v u (λ i d l j e m. joined (slice_index_or u i d).0 (slice_index_or v j e).0 (h.words i d l) (k.letters j e m)
-      (up_to_greatest word_length u i d l) (up_to_greatest length v j e m) (fits i j l m))) (omega (arith, long, few))
+      (le-greatest word_length u i d l) (le-greatest length v j e m) (fits i j l m))) (omega (arith, long, few))
     where
       fits : (i j : ℕ) → i < length u → j < length v → element_length u + algebra_length v ≤ most_length
       fits i j l m = short (λ none. let empty : length u ≡ 0 = ap length none in omega arith) (λ none. let empty : length v ≡ 0 = ap length none in omega arith)

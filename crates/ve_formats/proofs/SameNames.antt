@@ -1,19 +1,8 @@
 -- Names are equal or not.
 use Rattle.std.proofs.Common.{◌≡◌, ◌≢◌, ℕ, true, false, List, [], ◌∷◌, refl, sym, ap, ◌∙◌}
 use Rattle.std.specs.Prelude.{nat_eq}
-use Rattle.std.proofs.lemmas.Bool.{and_parts, eqb-true, eq-eqb, and_from}
+use Rattle.std.proofs.lemmas.Bool.{eq-eqb, and_from}
 use Rattle.ve_theory.specs.Words.{same_letters}
-
-pub same_letters-true : (u v : List ℕ) → same_letters u v ≡ true → u ≡ v
-unfolding same_letters
-same_letters-true [] [] h = refl
-same_letters-true [] (y ∷ v) h = absurd (cc)
-same_letters-true (x ∷ u) [] h = absurd (cc)
-same_letters-true (x ∷ u) (y ∷ v) h =
-    let parts = and_parts (nat_eq x y) (same_letters u v) h in
-    let first : x ≡ y = eqb-true x y parts.0 in
-    let rest : u ≡ v = same_letters-true u v parts.1 in
-    (λ i. first i ∷ rest i)
 
 pub same_letters-refl : (u : List ℕ) → same_letters u u ≡ true
 unfolding same_letters

@@ -3,12 +3,13 @@ use Rattle.std.proofs.Common.{◌≡◌, ℕ, ◌+◌, ◌^◌, ◌<◌, ◌≤�
 use Rattle.std.specs.Prelude.{nat_eq, nat_le, not, IsTrue, IsFalse, decimal}
 use Rattle.std.specs.List.{list_all}
 use Rattle.std.proofs.lemmas.Bool.{and_parts, and_from, ne_eqb, eq-eqb, leb-true, cases_order}
-use Rattle.std.proofs.lemmas.List.{append_cancel_left, get_or_append_left, get_or-append-add, length_push}
+use Rattle.std.proofs.lemmas.List.{append_cancel_left}
 use Rattle.std.proofs.lemmas.List.Elements.{All-head, All-tail, All-get_or}
 use Rattle.std.proofs.lemmas.Fmt.{decimal_injective}
 use Rattle.ve_theory.specs.Validity.{is_name, is_name_letter, is_digit}
 use Rattle.ve_theory.specs.Validity.{is_rooted, most_generators}
 use Rattle.ve_theory.specs.Words.{Word, generator, times, start, letters}
+use Rattle.ve_lemmas.proofs.Lists.{All-front, All-last}
 use Rattle.ve_formats.specs.WordText.{word_text, letter_name}
 use Rattle.ve_formats.specs.AnswerReading.{AreNames}
 use Rattle.ve_formats.specs.Lines.{each_after_space}
@@ -70,7 +71,7 @@ digits_lack b below (d ∷ ds) all =
     let least : 48 ≤ d = leb-true 48 d (and_parts (nat_le 48 d) (nat_le d 57) parts.0).0 in
     and_from _ _ (differs d b (λ is. omega (arith, least))) (digits_lack b below ds parts.1)
 
-number_digits : (ds : List ℕ) → IsTrue (is_number ds) → IsTrue (list_all is_digit ds)
+pub number_digits : (ds : List ℕ) → IsTrue (is_number ds) → IsTrue (list_all is_digit ds)
 number_digits [] h = refl
 number_digits (d ∷ ds) h = h
 
@@ -126,14 +127,6 @@ last_once b (x ∷ xs) (y ∷ ys) m n lm ln is =
     ((λ i. first i ∷ more.0 i), more.1)
 
 -- ---- words
-
-pub All-front : {X : Type 0} (P : X → Type 0) (xs : List X) (x : X) → All P (xs ++ x ∷ []) → All P xs
-All-front P xs x all k d inside = subst P (get_or_append_left xs (x ∷ []) d k inside) (all k d (omega (arith, length_push xs x, inside)))
-
-pub All-last : {X : Type 0} (P : X → Type 0) (xs : List X) (x : X) → All P (xs ++ x ∷ []) → P x
-All-last P xs x all =
-    let place : length xs + 0 ≡ length xs = omega arith in
-    subst P (ap (λ k. get_or (xs ++ x ∷ []) k x) (sym place) ∙ get_or-append-add xs (x ∷ []) 0 x) (all (length xs) x (omega (arith, length_push xs x)))
 
 module _ (names : List (List ℕ)) (are : AreNames names) where
   name_at : (x : ℕ) → x < length names → IsTrue (is_name (get_or names x []))

@@ -1,27 +1,10 @@
 -- What holds of the keys of sums, scalings and products, and how many terms these have.
-use Rattle.std.proofs.Common.{◌≡◌, ℕ, ◌+◌, ◌*◌, ◌≤◌, max, List, [], ◌∷◌, ◌++◌, length, All, refl, sym, ◌∙◌, length-append, append_assoc, append-nil, arith}
-use Rattle.std.proofs.Math.Nat.{le-max_left, le-max_right, max-le}
-use Rattle.std.proofs.lemmas.List.Elements.{All-nil, All-cons, All-head, All-tail, All-append, All-weaker}
+use Rattle.std.proofs.Common.{◌≡◌, ℕ, ◌+◌, ◌*◌, List, [], ◌∷◌, ◌++◌, length, All, refl, ◌∙◌, length-append, arith}
+use Rattle.std.proofs.lemmas.List.Elements.{All-nil, All-cons, All-head, All-tail, All-append}
 use Rattle.ve_theory.specs.Combinations.{Combination, scaled}
-use Rattle.ve_theory.specs.Words.{Word, times, start, letters, times_all}
-use Rattle.ve_theory.specs.Elements.{AlgebraElement, Element, letters_times, product, word_times, element_times, greatest}
-
--- the greatest of the keys' sizes
-
-pub up_to_greatest : {K : Type 0} (size : K → ℕ) (v : Combination K) → All (λ t. size t.0 ≤ greatest size v) v
-unfolding greatest
-up_to_greatest {K} size [] = All-nil (λ (t : K × ℕ). size t.0 ≤ 0)
-up_to_greatest {K} size (t ∷ v) =
-    All-cons (λ (s : K × ℕ). size s.0 ≤ max (size t.0) (greatest size v)) t v (le-max_left (size t.0) (greatest size v))
-    (All-weaker (λ (s : K × ℕ). size s.0 ≤ greatest size v) (λ (s : K × ℕ). size s.0 ≤ max (size t.0) (greatest size v)) (λ s h. raised s h) v (up_to_greatest size v))
-  where
-    raised : (s : K × ℕ) → size s.0 ≤ greatest size v → size s.0 ≤ max (size t.0) (greatest size v)
-    raised s h = let above = le-max_right (size t.0) (greatest size v) in omega (arith, above)
-
-pub greatest_up_to : {K : Type 0} (size : K → ℕ) (n : ℕ) (v : Combination K) → All (λ t. size t.0 ≤ n) v → greatest size v ≤ n
-unfolding greatest
-greatest_up_to size n [] all = omega arith
-greatest_up_to {K} size n (t ∷ v) all = max-le (All-head (λ (s : K × ℕ). size s.0 ≤ n) t v all) (greatest_up_to size n v (All-tail (λ (s : K × ℕ). size s.0 ≤ n) t v all))
+use Rattle.ve_theory.specs.Words.{Word, times_all}
+use Rattle.ve_theory.specs.Elements.{AlgebraElement, Element, letters_times, product, word_times, element_times}
+use Rattle.ve_lemmas.proofs.Products.{length-scaled}
 
 -- scalings
 
@@ -31,11 +14,6 @@ module _ {K : Type 0} (c : ℕ) where
   scaled_keys Q [] all = All-nil (λ (t : K × ℕ). Q t.0)
   scaled_keys Q (t ∷ v) all =
       All-cons (λ (s : K × ℕ). Q s.0) (t.0, c * t.1) (scaled c v) (All-head (λ (s : K × ℕ). Q s.0) t v all) (scaled_keys Q v (All-tail (λ (s : K × ℕ). Q s.0) t v all))
-
-  pub length-scaled : (v : Combination K) → length (scaled c v) ≡ length v
-  unfolding scaled
-  length-scaled [] = refl
-  length-scaled (t ∷ v) = omega (arith, length-scaled v)
 
 -- products in the algebra
 
@@ -69,16 +47,6 @@ length-product (s ∷ u) v =
 
 -- products in the module
 
-pub start-times_all : (w : Word) (u : List ℕ) → start (times_all w u) ≡ start w
-unfolding times_all start
-start-times_all w [] = refl
-start-times_all w (x ∷ u) = start-times_all (times w x) u
-
-pub letters-times_all : (w : Word) (u : List ℕ) → letters (times_all w u) ≡ letters w ++ u
-unfolding times_all letters
-letters-times_all w [] = sym (append-nil (letters w))
-letters-times_all w (x ∷ u) = letters-times_all (times w x) u ∙ append_assoc (letters w) (x ∷ []) u
-
 module _ (Q : Word → Type 0) (r : AlgebraElement) where
   word_times-keys : (w : Word) (s : AlgebraElement) → All (λ t. Q (times_all w t.0)) s → All (λ t. Q t.0) (word_times w s)
   unfolding word_times
@@ -93,16 +61,3 @@ module _ (Q : Word → Type 0) (r : AlgebraElement) where
       All-append (λ (t : Word × ℕ). Q t.0) (scaled s.1 (word_times s.0 r)) (element_times u r)
       (scaled_keys s.1 Q (word_times s.0 r) (word_times-keys s.0 r (All-head (λ (s : Word × ℕ). All (λ (t : List ℕ × ℕ). Q (times_all s.0 t.0)) r) s u all)))
       (element_times_keys u (All-tail (λ (s : Word × ℕ). All (λ (t : List ℕ × ℕ). Q (times_all s.0 t.0)) r) s u all))
-
-length-word_times : (w : Word) (r : AlgebraElement) → length (word_times w r) ≡ length r
-unfolding word_times
-length-word_times w [] = refl
-length-word_times w (t ∷ r) = omega (arith, length-word_times w r)
-
-pub length-element_times : (u : Element) (r : AlgebraElement) → length (element_times u r) ≡ length u * length r
-unfolding element_times
-length-element_times [] r = omega arith
-length-element_times (s ∷ u) r =
-    let all : length (scaled s.1 (word_times s.0 r) ++ element_times u r) ≡ length (scaled s.1 (word_times s.0 r)) + length (element_times u r) = length-append (scaled s.1 (word_times s.0 r)) (element_times u r) in
-    let here : length (scaled s.1 (word_times s.0 r)) ≡ length r = length-scaled s.1 (word_times s.0 r) ∙ length-word_times s.0 r in
-    omega (arith, all, here, length-element_times u r)

@@ -1,27 +1,23 @@
 -- Values are lists of terms over the presentation's letters, within the limits.
-use Rattle.std.proofs.Common.{◌≡◌, ℕ, ◌+◌, ◌*◌, ◌-◌, ◌<◌, ◌≤◌, List, [], ◌∷◌, ◌++◌, length, All, Result, Ok, Err, true, ltb, slice_index_or, refl, ap, length-append, arith}
-use Rattle.std.proofs.lemmas.Bool.{ltb-true}
+use Rattle.std.proofs.Common.{◌≡◌, ℕ, ◌+◌, ◌*◌, ◌-◌, ◌<◌, ◌≤◌, List, [], ◌∷◌, ◌++◌, length, All, Result, Ok, Err, slice_index_or, ap, length-append, arith}
 use Rattle.std.proofs.lemmas.Option.{slice_get_within}
-use Rattle.std.proofs.lemmas.List.Elements.{All-nil, All-cons, All-append, All-weaker, All-contains}
-use Rattle.std.proofs.lemmas.List.Sums.{AllPass-from_list_all}
-use Rattle.ve_theory.specs.Residues.{IsFieldPrime, primes}
+use Rattle.std.proofs.lemmas.List.Elements.{All-nil, All-cons, All-append, All-weaker}
 use Rattle.ve_theory.specs.Combinations.{unit, scaled, AllBefore, IsReduced}
 use Rattle.ve_theory.specs.Elements as elements
 use Rattle.ve_theory.specs.Elements.{AlgebraElement, IsAlgebraElementOf, algebra_length, greatest}
 use Rattle.ve_theory.specs.Presentations.{Presentation, letter_count, HasLetters}
 use Rattle.ve_theory.specs.Laws.{ReducedListsAreUnique}
 use Rattle.ve_theory.specs.Validity.{most_terms, most_length}
+use Rattle.ve_lemmas.proofs.Residues.{prime-large}
+use Rattle.ve_lemmas.proofs.Sums.{greatest-le, le-greatest}
+use Rattle.ve_lemmas.proofs.Products.{length-scaled}
 use Rattle.ve_formats.specs.Causes.{Cause}
 use Rattle.ve_formats.specs.Expressions.{Expression}
 use Rattle.ve_formats.specs.Values.{IsReadable, IsAlgebraValue, AddsUp, added, too_many, Multiplies, multiplied, too_long, HasPower, zeroth, first, next, stopped, HasValue, of_constant, of_letter, of_unknown, of_group, of_power, of_large_power, of_faulty_base, of_inverse_power, of_large_inverse_power, of_no_inverse, of_faulty_inverse_base, of_product, of_product_left, of_product_right, of_opposite, of_faulty_opposite, of_sum, of_sum_left, of_sum_right, of_difference, of_difference_left, of_difference_right}
 use Rattle.ve_formats.specs.Values as algebra
 use Rattle.ve_formats.proofs.ElementSums.{prime_positive}
 use Rattle.ve_formats.proofs.KeptTerms.{letters_kept, terms_kept}
-use Rattle.ve_formats.proofs.SumTerms.{up_to_greatest, greatest_up_to, scaled_keys, length-scaled, product_keys, length-product}
-
-pub prime_above_one : (p : ℕ) → IsFieldPrime p → 1 < p
-unfolding primes
-prime_above_one p h = ltb-true 1 p (All-contains (λ q. ltb 1 q ≡ true) primes p (AllPass-from_list_all (λ q. ltb 1 q) primes refl) h)
+use Rattle.ve_formats.proofs.SumTerms.{scaled_keys, product_keys, length-product}
 
 -- letters of the presentation, and not too many
 abbrev pub IsShort : Presentation → List ℕ → Type 0
@@ -44,11 +40,11 @@ module _ (unique : ReducedListsAreUnique) (P : Presentation) (readable : IsReada
         reduced = h.reduced;
         letters = All-weaker (λ (t : List ℕ × ℕ). IsShort P t.0) (λ (t : List ℕ × ℕ). HasLetters P t.0) (λ t k. k.0) v all;
         terms = let kept : length v ≤ length e = terms_kept unique P.prime some (IsShort P) h in omega (arith, kept);
-        short = greatest_up_to length most_length v short;
+        short = greatest-le length most_length v short;
       }
 
   pub keys_of : {v : AlgebraElement} → IsAlgebraValue P v → All (λ t. IsShort P t.0) v
-  keys_of {v} h = λ k d l. (h.letters k d l, short (slice_index_or v k d).0 (up_to_greatest length v k d l))
+  keys_of {v} h = λ k d l. (h.letters k d l, short (slice_index_or v k d).0 (le-greatest length v k d l))
     where
       short : (u : List ℕ) → length u ≤ algebra_length v → length u ≤ most_length
       short u k = omega (arith, k, h.short)
@@ -56,7 +52,7 @@ module _ (unique : ReducedListsAreUnique) (P : Presentation) (readable : IsReada
   unit_value : (u : List ℕ) → IsShort P u → IsAlgebraValue P (unit u)
   unfolding IsReduced AllBefore greatest
   unit_value u h = record {
-    reduced = (omega arith, prime_above_one P.prime readable.field, tt, tt);
+    reduced = (omega arith, prime-large P.prime readable.field, tt, tt);
     letters = All-cons (λ (t : List ℕ × ℕ). HasLetters P t.0) (u, 1) [] h.0 (All-nil (λ (t : List ℕ × ℕ). HasLetters P t.0));
     terms = omega arith;
     short = omega (arith, h.1);
@@ -80,7 +76,7 @@ module _ (unique : ReducedListsAreUnique) (P : Presentation) (readable : IsReada
   product_value {u} {v} h k (multiplied w few short is) =
       let long : length (elements.product u v) ≡ length u * length v = length-product u v in
       collected_value is (product_keys (IsShort P) v u (λ i d l j e m. joined (slice_index_or u i d).0 (slice_index_or v j e).0 (keys_of h i d l).0 (keys_of k j e m).0
-      (up_to_greatest length u i d l) (up_to_greatest length v j e m) (fits i j l m))) (omega (arith, long, few))
+      (le-greatest length u i d l) (le-greatest length v j e m) (fits i j l m))) (omega (arith, long, few))
     where
       fits : (i j : ℕ) → i < length u → j < length v → algebra_length u + algebra_length v ≤ most_length
       fits i j l m = short (λ none. let empty : length u ≡ 0 = ap length none in omega arith) (λ none. let empty : length v ≡ 0 = ap length none in omega arith)

@@ -1,19 +1,11 @@
 -- Shortlex is a strict total order, and so is the order of letters.
 use Rattle.std.proofs.Common.{◌≡◌, ℕ, ◌<◌, ◌⊎◌, inl, inr, List, [], ◌∷◌, length, refl, sym, ◌∙◌, arith}
 use Rattle.std.proofs.lemmas.Bool.{cases_order, and_from, eq-eqb}
-use Rattle.ve_theory.specs.Words.{Word, generator, start, letters, times_all, same_letters, same_word, DiffersBelow, Shortlex, ShortlexLetters, spelled_back}
+use Rattle.ve_theory.specs.Words.{Word, start, letters, same_letters, same_word, DiffersBelow, Shortlex, ShortlexLetters}
+use Rattle.ve_lemmas.proofs.Orders.{differs_transitive}
+use Rattle.ve_lemmas.proofs.Words.{same_words}
 use Rattle.ve_formats.proofs.SameNames.{same_letters-refl}
 use Rattle.ve_formats.proofs.Collecting.{IsKeyOrder}
-
-differs_transitive : (u v w : List ℕ) → DiffersBelow u v → DiffersBelow v w → DiffersBelow u w
-unfolding DiffersBelow
-differs_transitive [] v w h k = absurd h
-differs_transitive (x ∷ u) [] w h k = absurd h
-differs_transitive (x ∷ u) (y ∷ v) [] h k = absurd k
-differs_transitive (x ∷ u) (y ∷ v) (z ∷ w) (inl h) (inl k) = inl (omega arith)
-differs_transitive (x ∷ u) (y ∷ v) (z ∷ w) (inl h) (inr k) = inl (omega arith)
-differs_transitive (x ∷ u) (y ∷ v) (z ∷ w) (inr h) (inl k) = inl (omega arith)
-differs_transitive (x ∷ u) (y ∷ v) (z ∷ w) (inr h) (inr k) = inr (h.0 ∙ k.0, differs_transitive u v w h.1 k.1)
 
 abbrev Compared : {K : Type 0} → (K → K → Type 0) → K → K → Type 0
 Compared before j k = before j k ⊎ ((j ≡ k) ⊎ before k j)
@@ -54,12 +46,6 @@ letters_order = record { transitive = transitive; total = total; itself = same_l
 
     total : (u v : List ℕ) → Compared ShortlexLetters u v
     total u v = by_length u v (cases_order (length u) (length v))
-
-same_words : (v w : Word) → start v ≡ start w → letters v ≡ letters w → v ≡ w
-same_words v w h k =
-    let a : times_all (generator (start v)) (letters v) ≡ v = spelled_back v in
-    let b : times_all (generator (start w)) (letters w) ≡ w = spelled_back w in
-    cc
 
 pub words_order : IsKeyOrder Shortlex same_word
 unfolding Shortlex same_word

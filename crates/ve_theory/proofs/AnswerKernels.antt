@@ -21,7 +21,7 @@ use Rattle.ve_theory.proofs.Kernels.{zero_row, row_weights, placed_from_form, wo
 
 -- the letters of relators
 
-inverse_relators_letters : (p n first : ℕ) (inverses : List (Option ℕ)) → first + length inverses ≤ n → ((x y : ℕ) → slice_get inverses x ≡ Some (Some y) → y < n)
+pub inverse_relators_letters : (p n first : ℕ) (inverses : List (Option ℕ)) → first + length inverses ≤ n → ((x y : ℕ) → slice_get inverses x ≡ Some (Some y) → y < n)
     → All (λ r. All (λ t. All (λ x. x < n) t.0) r) (inverse_relators p first inverses)
 unfolding inverse_relators
 inverse_relators_letters p n first [] l known = All-nil (λ (r : AlgebraElement). All (λ t. All (λ x. x < n) t.0) r)
@@ -33,14 +33,14 @@ inverse_relators_letters p n first (Some y ∷ rest) l known =
     (All-cons (λ (t : List ℕ × ℕ). All (λ x. x < n) t.0) ([], p - 1) [] (All-nil (λ x. x < n)) (All-nil (λ (t : List ℕ × ℕ). All (λ x. x < n) t.0))))
     (inverse_relators_letters p n (first + 1) rest (omega arith) (λ x. known (suc x)))
 
-relators_letters : (P : Presentation) → IsPresentation P → All (λ r. All (λ t. HasLetters P t.0) r) (relators P)
+pub relators_letters : (P : Presentation) → IsPresentation P → All (λ r. All (λ t. HasLetters P t.0) r) (relators P)
 relators_letters P V =
     All-append (λ (r : AlgebraElement). All (λ t. HasLetters P t.0) r) (inverse_relators P.prime 0 P.inverses) P.relations
     (inverse_relators_letters P.prime (letter_count P) 0 P.inverses (omega (arith, V.one_inverse_each))
     (λ x y e. omega (arith, slice_get_within P.inverses y (Some x) (V.inverses x y e), V.one_inverse_each)))
     (λ k d l. (V.relations k d l).1)
 
-All-word_times : (Q : Word → Type 0) (w : Word) (r : AlgebraElement) → All (λ t. Q (times_all w t.0)) r → All (λ t. Q t.0) (word_times w r)
+pub All-word_times : (Q : Word → Type 0) (w : Word) (r : AlgebraElement) → All (λ t. Q (times_all w t.0)) r → All (λ t. Q t.0) (word_times w r)
 unfolding word_times
 All-word_times Q w [] h = All-nil (λ (t : Word × ℕ). Q t.0)
 All-word_times Q w (t ∷ r) h =

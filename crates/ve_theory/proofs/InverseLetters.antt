@@ -115,7 +115,7 @@ pub record Inverted (inverses : List (Option ℕ)) (x : ℕ) (u inverse : List �
   pub rest : inverse_of_letters inverses u ≡ Some v
   pub whole : inverse ≡ v ++ y ∷ []
 
-inverted : (inverses : List (Option ℕ)) (x : ℕ) (u inverse : List ℕ) → inverse_of_letters inverses (x ∷ u) ≡ Some inverse → Inverted inverses x u inverse
+pub inverted : (inverses : List (Option ℕ)) (x : ℕ) (u inverse : List ℕ) → inverse_of_letters inverses (x ∷ u) ≡ Some inverse → Inverted inverses x u inverse
 unfolding inverse_of_letters
 inverted inverses x u inverse e = go (slice_get inverses x) (inverse_of_letters inverses u) refl refl
   where

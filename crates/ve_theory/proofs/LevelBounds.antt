@@ -51,7 +51,7 @@ IsNormal-lower P j k w l m N = record {
 }
 
 -- a normal word stands in the list after all its prefixes
-place_of_normal : (P : Presentation) → IsPresentation P → (k : ℕ) (ws : List Word) → Lists P (IsNormal P k) ws → (w : Word) → IsNormal P k w → (h : Contains ws w) → word_length w ≤ h.0
+pub place_of_normal : (P : Presentation) → IsPresentation P → (k : ℕ) (ws : List Word) → Lists P (IsNormal P k) ws → (w : Word) → IsNormal P k w → (h : Contains ws w) → word_length w ≤ h.0
 unfolding letters
 place_of_normal P V k ws L (generator i) N h = omega arith
 place_of_normal P V k ws L (times w x) N h =

@@ -83,7 +83,7 @@ differs_append (x ∷ u) (y ∷ v) s t (inr h) = inr (h.0, differs_append u v s 
 
 -- weights
 
-letters_weight-push : (weights u : List ℕ) (x : ℕ) → letters_weight weights (u ++ x ∷ []) ≡ letters_weight weights u + letter_weight weights x
+pub letters_weight-push : (weights u : List ℕ) (x : ℕ) → letters_weight weights (u ++ x ∷ []) ≡ letters_weight weights u + letter_weight weights x
 unfolding letters_weight
 letters_weight-push weights [] x = omega arith
 letters_weight-push weights (y ∷ u) x = let h : letters_weight weights (u ++ x ∷ []) ≡ letters_weight weights u + letter_weight weights x = letters_weight-push weights u x in omega arith

@@ -6,7 +6,9 @@ use Rattle.std.specs.declared.cmp.Ordering.TheVariants.{Less, Equal, Greater}
 use Rattle.std.specs.Ordering.{MatchOrdering, nat_cmp, ordering_then}
 use Rattle.std.specs.Cmp.{ranks}
 use Rattle.std.specs.Cmp.Lexicographic.{slice_cmp}
-use Rattle.ve_theory.specs.Words.{Word, start, letters, DiffersBelow, IsSmaller, spelled_back}
+use Rattle.ve_theory.specs.Words.{Word, start, letters, DiffersBelow, IsSmaller}
+use Rattle.ve_lemmas.proofs.Words.{same_words}
+use Rattle.ve_lemmas.proofs.Orders.{smaller_irreflexive}
 
 -- what a comparison answers: less exactly where P holds, greater exactly where Q holds
 pub record IsRanked (r : Ordering) (P Q : Type 0) : Type 0 where
@@ -112,16 +114,10 @@ letters-alike (x ∷ u) (y ∷ v) below above =
     let rest = letters-alike u v (λ h. below (inr (same, h))) (λ h. above (inr (sym same, h))) in
     (rest.0, elim rest.1 [ inl e ↦ inl (cc) | inr e ↦ inr (cc) ])
 
-IsSmaller-irreflexive : (w : Word) → IsSmaller w w → ⊥
-IsSmaller-irreflexive w h = elim h [ inl a ↦ omega arith | inr a ↦ DiffersBelow-asymmetric (letters w) (letters w) a.1 a.1 ]
-
 neither : (r : Ordering) → (r ≡ Less → ⊥) → (r ≡ Greater → ⊥) → r ≡ Equal
 neither Less less greater = absurd (less refl)
 neither Equal less greater = refl
 neither Greater less greater = absurd (greater refl)
-
-same_spelling : (v w : Word) → start v ≡ start w → letters v ≡ letters w → v ≡ w
-same_spelling v w starts spellings = cc (spelled_back v, spelled_back w)
 
 -- where no word is a proper beginning of the other, they tie exactly where they are equal
 pub equal-ranked :
@@ -135,8 +131,8 @@ equal-ranked r v w less greater ends = (
   λ e.
       neither
       r
-      (λ l. IsSmaller-irreflexive w (subst (λ (x : Word). IsSmaller x w) e (less.0 l)))
-      (λ g. IsSmaller-irreflexive w (subst (λ (x : Word). IsSmaller w x) e (greater.0 g))),
+      (λ l. smaller_irreflexive w (subst (λ (x : Word). IsSmaller x w) e (less.0 l)))
+      (λ g. smaller_irreflexive w (subst (λ (x : Word). IsSmaller w x) e (greater.0 g))),
 )
   where
     ended : (t u s : List ℕ) → t ≡ [] → u ≡ s ++ t → u ≡ s
@@ -149,7 +145,7 @@ equal-ranked r v w less greater ends = (
         let rest =
         letters-alike (letters v) (letters w) (λ h. below (inr (starts, h))) (λ h. above (inr (sym starts, h))) in
         let none = ends rest.0 rest.1 in
-        same_spelling
+        same_words
         v
         w
         starts

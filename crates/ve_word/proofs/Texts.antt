@@ -3,8 +3,8 @@ use Rattle.std.proofs.Common.{◌≡◌, ◌<◌, ◌++◌, ◌∷◌, ℕ, ◌+
 use Rattle.std.proofs.lemmas.List.{take_more}
 use Rattle.std.proofs.lemmas.Option.{get_or_from_slice_get}
 use Rattle.ve_theory.specs.Words.{Word, generator, times_all, start, letters, spelled_back}
+use Rattle.ve_lemmas.proofs.Words.{times_all-push}
 use Rattle.ve_formats.specs.WordText.{letter_name, word_text}
-use Rattle.ve_word.proofs.Spellings.{times_all-append}
 
 pub word_text-generator : (names : List (List ℕ)) (i : ℕ) → word_text names (times_all (generator i) []) ≡ 101 ∷ decimal (i + 1)
 unfolding word_text times_all
@@ -14,7 +14,7 @@ pub word_text-append :
     (names : List (List ℕ)) (w : Word) (u : List ℕ) (x : ℕ) →
     word_text names (times_all w (u ++ x ∷ [])) ≡ (word_text names (times_all w u) ++ 42 ∷ []) ++ letter_name names x
 unfolding word_text
-word_text-append names w u x = ap (word_text names) (times_all-append w u x)
+word_text-append names w u x = ap (word_text names) (times_all-push w u x)
 
 -- with all its letters
 pub word_text-spelled :
