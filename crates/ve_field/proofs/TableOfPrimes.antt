@@ -1,42 +1,15 @@
 -- What is known of each prime of the table, by computing it, and what a search of the table finds.
-use Rattle.std.proofs.Common.{◌≢◌, ◌∙◌, ap, sym, ◌≡◌, ◌≢◌, ℕ, suc, zero, ◌*◌, ◌-◌, ◌%◌, ◌^◌, ◌<◌, ◌≤◌, ◌⊎◌, inl, inr, cond, eqb, Bool, true, false, Option, Some, None, List, [], ◌∷◌, length, slice_index_or, refl, arith, sym, ◌∙◌, eq-eqb}
-use Rattle.std.specs.Prelude.{◌==◌, ◌&&◌, find, Contains}
-use Rattle.std.specs.List.{list_all}
+use Rattle.std.proofs.Common.{◌≢◌, ◌∙◌, ap, sym, ◌≡◌, ◌≢◌, ℕ, suc, zero, ◌*◌, ◌-◌, ◌%◌, ◌^◌, ◌<◌, ◌⊎◌, inl, inr, cond, Bool, true, false, Option, Some, None, List, [], ◌∷◌, length, slice_index_or, refl, arith, sym, ◌∙◌, eq-eqb}
+use Rattle.std.specs.Prelude.{◌==◌, find, Contains}
 use Rattle.std.proofs.Math.Nat.{mod-eq_of_lt, zero-mod, one-mul, zero-mul}
 use Rattle.std.proofs.lemmas.Nat.{mul-mod_first}
-use Rattle.std.proofs.lemmas.List.Sums.{AllPass-from_list_all}
-use Rattle.std.proofs.lemmas.List.Elements.{All-contains}
-use Rattle.std.proofs.lemmas.Bool.{and_parts, eqb-true}
-use Rattle.ve_theory.specs.Residues.{primes, IsFieldPrime}
-
--- what a test finds of each prime of the table
-pass : (test : ℕ → Bool) (p : ℕ) → list_all test primes ≡ true → IsFieldPrime p → test p ≡ true
-pass test p computed prime =
-    All-contains (λ q. test q ≡ true) primes p (AllPass-from_list_all test primes computed) prime
-
--- each number from 1 to n times its power with the exponent q - 2 has the residue 1
-inverts_below : ℕ → ℕ → Bool
-inverts_below q zero = true
-inverts_below q (suc n) = ((suc n * (suc n ^ (q - 2) % q)) % q == 1) && inverts_below q n
-
-all_invert : list_all (λ q. inverts_below q (q - 1)) primes ≡ true
-unfolding primes inverts_below
-all_invert = refl
-
-inverts_at : (q n a : ℕ) → inverts_below q n ≡ true → 0 < a → a ≤ n → (a * (a ^ (q - 2) % q)) % q ≡ 1
-unfolding inverts_below
-inverts_at q zero a computed positive within = absurd (omega arith)
-inverts_at q (suc n) a computed positive within =
-    let parts = and_parts ((suc n * (suc n ^ (q - 2) % q)) % q == 1) (inverts_below q n) computed in
-    elim (eqb a (suc n)) as (λ b. eqb a (suc n) ≡ b → (a * (a ^ (q - 2) % q)) % q ≡ 1) [
-      | true ↦ λ e. rw (eqb-true a (suc n) e) (eqb-true _ 1 parts.0)
-      | false ↦ λ e. let other : a ≢ suc n = λ same. cc (e, eq-eqb a (suc n) same) in inverts_at q n a parts.1 positive (omega arith)
-    ] refl
+use Rattle.std.proofs.lemmas.Bool.{eqb-true}
+use Rattle.ve_theory.specs.Residues.{IsFieldPrime}
+use Rattle.ve_lemmas.proofs.Residues.{prime-large, power_inverts as congruent_inverse}
 
 -- the power with the exponent p - 2 is the inverse
 pub power_inverts : (p a : ℕ) → IsFieldPrime p → 0 < a → a < p → (a * (a ^ (p - 2) % p)) % p ≡ 1
-power_inverts p a prime positive residue =
-    inverts_at p (p - 1) a (pass (λ q. inverts_below q (q - 1)) p all_invert prime) positive (omega arith)
+power_inverts p a prime positive residue = congruent_inverse p a prime positive residue ∙ mod-eq_of_lt (prime-large p prime)
 
 -- a product with a nonzero residue can be undone
 undone : (p a b : ℕ) → IsFieldPrime p → 0 < a → a < p → b < p → ((a * b) % p * (a ^ (p - 2) % p)) % p ≡ b

@@ -7,4 +7,5 @@ pub mod Weights
 pub mod Sums
 pub mod Products
 pub mod Halves
+pub mod Relators
 pub mod Derivations

@@ -6,7 +6,6 @@ pub use Rattle.ve_theory.proofs.Sums.{Decides-nat_eq, Decides-same_letters, Deci
 pub use Rattle.ve_theory.proofs.Orders.{same_words}
 pub use Rattle.ve_theory.proofs.Members.{IsWord-times}
 pub use Rattle.ve_theory.proofs.RelatorReaches.{letters-times_all}
-pub use Rattle.ve_theory.proofs.AnswerKernels.{relators_letters}
 
 pub length-generator : (i : ℕ) → word_length (generator i) ≡ 0
 unfolding letters

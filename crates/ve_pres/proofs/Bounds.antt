@@ -1,7 +1,8 @@
 -- Greatest numbers over lists, and sums over them.
-use Rattle.std.proofs.Common.{◌≡◌, ℕ, zero, suc, ◌+◌, ◌<◌, max, List, [], ◌∷◌, ◌++◌, length, get_or, take, refl, sym, ap, ◌∙◌, add-one, arith, sum_by}
+use Rattle.std.proofs.Common.{◌≡◌, ℕ, ◌+◌, ◌<◌, max, List, [], ◌∷◌, ◌++◌, length, get_or, take, refl, sym, ap, ◌∙◌, add-one, arith, sum_by}
 use Rattle.std.proofs.Math.Seq.{take-suc}
 use Rattle.std.proofs.lemmas.List.Sums.{sum_by-cons}
+use Rattle.std.proofs.lemmas.List.{get_or_default}
 use Rattle.ve_theory.specs.Presentations.{greatest_of}
 
 pub greatest_of-append : {X : Type 0} (size : X → ℕ) (xs ys : List X) → greatest_of size (xs ++ ys) ≡ max (greatest_of size xs) (greatest_of size ys)
@@ -27,10 +28,5 @@ pub sum_by-append : {X : Type 0} (f : X → ℕ) (xs ys : List X) → sum_by f (
 sum_by-append f [] ys = omega arith
 sum_by-append f (x ∷ xs) ys = omega (arith, sum_by-cons f x (xs ++ ys), sum_by-cons f x xs, sum_by-append f xs ys)
 
-get_or_in_range : (xs : List ℕ) (i d e : ℕ) → i < length xs → get_or xs i d ≡ get_or xs i e
-get_or_in_range [] i d e below = absurd (omega arith)
-get_or_in_range (x ∷ xs) zero d e below = refl
-get_or_in_range (x ∷ xs) (suc i) d e below = get_or_in_range xs i d e (omega arith)
-
 pub greatest_of-take_number : (xs : List ℕ) (i : ℕ) → i < length xs → greatest_of (λ n. n) (take (i + 1) xs) ≡ max (greatest_of (λ n. n) (take i xs)) (get_or xs i 0)
-greatest_of-take_number xs i below = greatest_of-take (λ n. n) xs i (get_or xs i 0) below (get_or_in_range xs i 0 (get_or xs i 0) below)
+greatest_of-take_number xs i below = greatest_of-take (λ n. n) xs i (get_or xs i 0) below (get_or_default xs i 0 (get_or xs i 0) below)

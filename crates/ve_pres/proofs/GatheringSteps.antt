@@ -7,11 +7,12 @@ use Rattle.ve_theory.specs.Residues.{Congruent}
 use Rattle.ve_theory.specs.Combinations.{coefficient, Alike, AllBefore, IsReduced}
 use Rattle.ve_theory.specs.Words.{Word, same_word, Shortlex}
 use Rattle.ve_theory.specs.Elements.{Element}
+use Rattle.ve_lemmas.proofs.Residues.{congruent-add}
+use Rattle.ve_lemmas.proofs.Sums.{coefficient-append}
 use Rattle.ve_pres.specs.Gathering.{IsAtMost, AtLeast, IsReady, Gathers}
 use Rattle.ve_pres.specs.declared.term.Term.{Term}
 use Rattle.ve_pres.specs.Terms.{pairs}
 use Rattle.ve_pres.proofs.Orders.{shortlex_transitive}
-use Rattle.ve_pres.proofs.Sums.{congruent-add, coefficient-append}
 use Rattle.ve_pres.proofs.Reduced.{IsFront, IsReduced-front, IsReduced-push}
 
 -- the coefficient is 0

@@ -7,6 +7,7 @@ use Rattle.std.proofs.lemmas.List.Sorted.{sorted_far, length_permutation, All-pe
 use Rattle.std.specs.List.Sorted.{IsPermutation, IsSortedBy}
 use Rattle.ve_theory.specs.Combinations.{coefficient, Alike, IsReduced}
 use Rattle.ve_theory.specs.Words.{Word, same_word, Shortlex}
+use Rattle.ve_lemmas.proofs.Lists.{All-front}
 use Rattle.ve_pres.specs.declared.term.Term.{Term}
 use Rattle.ve_pres.specs.Terms.{pairs}
 use Rattle.ve_pres.specs.Gathering.{IsAtMost, AtLeast, Gathers}
@@ -44,14 +45,6 @@ gathering_begins p terms kept left residues moved rising none =
     })
 
 -- the last of a list, and what is before it
-
-pub All-last : {X : Type 0} (P : X → Type 0) (xs : List X) (x : X) → All P (xs ++ x ∷ []) → P x
-All-last P [] x h = All-head P x [] h
-All-last P (y ∷ xs) x h = All-last P xs x (All-tail P y (xs ++ x ∷ []) h)
-
-All-front : {X : Type 0} (P : X → Type 0) (xs : List X) (x : X) → All P (xs ++ x ∷ []) → All P xs
-All-front P [] x h = All-nil P
-All-front P (y ∷ xs) x h = All-cons P y xs (All-head P y (xs ++ x ∷ []) h) (All-front P xs x (All-tail P y (xs ++ x ∷ []) h))
 
 rising_front : (rest : List Term) (term : Term) → IsSortedBy (λ (x : Term) (y : Term). is_before x.word y.word) (rest ++ term ∷ [])
     → IsSortedBy (λ (x : Term) (y : Term). is_before x.word y.word) rest

@@ -1,7 +1,7 @@
 -- Halves of relations.
 use Rattle.std.proofs.Common.{◌≡◌, ◌≢◌, ℕ, zero, suc, ◌+◌, ◌-◌, ◌/◌, ◌<◌, ◌≤◌, ◌⊎◌, inl, inr, List, [], ◌∷◌, ◌++◌, length, get_or, take, drop, All, Some, None, Option, slice_get, IfSome, refl, sym, subst, ap, ap₂, ◌∙◌, length-append, add-one, arith}
-use Rattle.std.proofs.Math.Seq.{drop-cons, take-length}
-use Rattle.std.proofs.lemmas.List.{append-nil, length-take, length-drop}
+use Rattle.std.proofs.Math.Seq.{drop-cons}
+use Rattle.std.proofs.lemmas.List.{length-take, length-drop}
 use Rattle.std.proofs.lemmas.Option.{slice_get_within}
 use Rattle.std.proofs.lemmas.List.Elements.{All-nil, All-append, All-weaker, All-push, All-take}
 use Rattle.ve_theory.specs.Combinations.{IsReduced, AllBefore}
@@ -9,9 +9,10 @@ use Rattle.ve_theory.specs.Words.{Word, generator, times, times_all, letters, st
 use Rattle.ve_theory.specs.Elements.{AlgebraElement, IsAlgebraElementOf, halved, inverse_of_letters}
 use Rattle.ve_theory.specs.Presentations.{Presentation, IsPresentation, HasLetters, letter_count}
 use Rattle.ve_theory.specs.Validity.{most_length}
+use Rattle.ve_lemmas.proofs.Words.{start-times_all, letters-times_all, times_all-empty, times_all-push}
+use Rattle.ve_lemmas.proofs.Halves.{own_half}
 use Rattle.ve_pres.specs.Terms.{IsSummand}
 use Rattle.ve_pres.specs.Halves.{AreHalfWords, IsHalf, IsInverseProduct, kept_of}
-use Rattle.ve_pres.proofs.Words.{letters-times_all, start-times_all, times_all-append, times_all-empty}
 
 -- inverses of letters, one after another
 
@@ -73,7 +74,7 @@ inverse_goes_on P w u left y product next below part here exists is = record {
         is_inverse = ap (inverse_of_letters P.inverses) rest ∙ inverse_cons_some P.inverses (get_or u left 0) y (drop (left + 1) u) part.done.inverse here part.done.is_inverse;
         exist = All-push (λ (x : ℕ). x < length P.names) part.done.inverse y part.done.exist exists;
         count = omega (arith, length-append part.done.inverse (y ∷ []), part.done.count, ap length rest);
-        is_product = is ∙ (ap (λ v. times v y) part.done.is_product ∙ sym (times_all-append w part.done.inverse y));
+        is_product = is ∙ (ap (λ v. times v y) part.done.is_product ∙ sym (times_all-push w part.done.inverse y));
       };
   within = omega arith;
 }
@@ -102,24 +103,6 @@ half_with_inverse :
     → halved inverses (s ∷ t ∷ []) ≡ (take (length s.0 - (length s.0 - length t.0) / 2) s.0, s.1) ∷ (t.0 ++ v, t.1) ∷ []
 unfolding halved
 half_with_inverse inverses s t v some = rw some refl
-
--- words whose lengths differ by at most 1 are their own half
-own_half : (inverses : List (Option ℕ)) (n : ℕ) (h : AlgebraElement) → length h ≤ 2 → All (λ t. (n ≤ length t.0) × (length t.0 ≤ n + 1)) h → halved inverses h ≡ h
-unfolding inverse_of_letters
-own_half inverses n [] few near = half_of_other inverses [] (λ e. cc)
-own_half inverses n (s ∷ []) few near = half_of_other inverses (s ∷ []) (λ e. cc)
-own_half inverses n (s ∷ t ∷ []) few near =
-    let first : (n ≤ length s.0) × (length s.0 ≤ n + 1) = near 0 s (omega arith) in
-    let second : (n ≤ length t.0) × (length t.0 ≤ n + 1) = near 1 s (omega arith) in
-    let kept : length s.0 - (length s.0 - length t.0) / 2 ≡ length s.0 = omega arith in
-    let none : inverse_of_letters inverses (drop (length s.0 - (length s.0 - length t.0) / 2) s.0) ≡ Some [] = ap (λ k. inverse_of_letters inverses (drop k s.0)) kept ∙ ap (inverse_of_letters inverses) (drop_all s.0) in
-    half_with_inverse inverses s t [] none
-    ∙ ap₂ (λ u v. (u, s.1) ∷ (v, t.1) ∷ []) (ap (λ k. take k s.0) kept ∙ take-length s.0) (append-nil t.0)
-  where
-    drop_all : (v : List ℕ) → drop (length v) v ≡ []
-    drop_all [] = refl
-    drop_all (x ∷ v) = drop_all v
-own_half inverses n (s ∷ t ∷ r ∷ v) few near = absurd (omega arith)
 
 -- an element of two terms
 

@@ -6,12 +6,13 @@ use Rattle.ve_theory.specs.Combinations.{scaled, unit, coefficient, AllBefore, I
 use Rattle.ve_theory.specs.Words.{Word, generator, times, start, letters, times_all, word_length, same_word, same_letters, Shortlex, ShortlexLetters}
 use Rattle.ve_theory.specs.Elements.{Element, AlgebraElement, IsElementOf, IsAlgebraElementOf, word_times, element_times, letters_times, product, element_length, algebra_length, greatest}
 use Rattle.ve_theory.specs.Validity.{most_length}
+use Rattle.ve_lemmas.proofs.Words.{start-times_all, letters-times_all}
+use Rattle.ve_lemmas.proofs.Sums.{All-scaled, All_from_AllBefore, AllBefore_from_All}
 use Rattle.ve_pres.specs.declared.term.Term.{Term}
 use Rattle.ve_pres.specs.Limits.{product_limit}
 use Rattle.ve_pres.specs.Terms.{in_algebra, pairs, IsKept}
-use Rattle.ve_pres.proofs.Words.{start-times_all, letters-times_all}
-use Rattle.ve_pres.proofs.Products.{element_times_keeps, scaled_keeps}
-use Rattle.ve_pres.proofs.Reduced.{All_from_AllBefore, AllBefore_from_All, words_of_sum}
+use Rattle.ve_pres.proofs.Products.{element_times_keeps}
+use Rattle.ve_pres.proofs.Reduced.{words_of_sum}
 
 -- all words are of the first generator
 abbrev pub IsOnFirst : Element → Type 0
@@ -132,7 +133,7 @@ pub first_append : (u v : Element) → IsOnFirst u → IsOnFirst v → IsOnFirst
 first_append u v a b = All-append (λ (t : Word × ℕ). start t.0 ≡ 0) u v a b
 
 pub first_scaled : (c : ℕ) (v : Element) → IsOnFirst v → IsOnFirst (scaled c v)
-first_scaled c v first = scaled_keeps (λ w. start w ≡ 0) c v first
+first_scaled c v first = All-scaled (λ w. start w ≡ 0) c v first
 
 pub first_times : (v : Element) (r : AlgebraElement) → IsOnFirst v → IsOnFirst (element_times v r)
 first_times v r first =

@@ -6,12 +6,14 @@ use Rattle.ve_theory.specs.Combinations.{Combination, scaled, unit, coefficient,
 use Rattle.ve_theory.specs.Words.{Word, word_length, same_word, Shortlex, ShortlexLetters}
 use Rattle.ve_theory.specs.Elements.{Element, AlgebraElement, IsElementOf, element_times, element_length, algebra_length, greatest}
 use Rattle.ve_theory.specs.Validity.{most_length, most_terms}
+use Rattle.ve_lemmas.proofs.Products.{length-element_times, length-scaled}
+use Rattle.ve_lemmas.proofs.Sums.{All-scaled}
 use Rattle.ve_pres.specs.declared.term.Term.{Term}
 use Rattle.ve_pres.specs.Terms.{pairs, residues, IsKept, IsSummable}
 use Rattle.ve_pres.proofs.Sums.{Alike-residues}
 use Rattle.ve_pres.proofs.Reduced.{words_of_sum, residues_of_reduced}
 use Rattle.ve_pres.proofs.Gatherings.{coefs_of_pairs}
-use Rattle.ve_pres.proofs.Products.{residues_below, residues_keep, scaled_keeps, length-scaled, length-element_times, element_times-zero, times_lengths, longest_first}
+use Rattle.ve_pres.proofs.Products.{residues_below, residues_keep, element_times-zero, times_lengths, longest_first}
 
 pub kept_zero : (terms : List Term) → terms ≡ [] → IsKept (pairs terms)
 unfolding IsReduced
@@ -107,7 +109,7 @@ length_of_none v (t ∷ items) shown none = absurd cc
 pub summable_scaling : (p by : ℕ) (terms : List Term) (v : Element) → by < p → IsKept v → pairs terms ≡ residues p (scaled by v) → IsSummable p (pairs terms)
 summable_scaling p by terms v residue kept shown =
     summable_residues p terms (scaled by v) (positive_residue by p residue) shown
-    (scaled_keeps (λ w. word_length w ≤ most_length) by v kept.lengths)
+    (All-scaled (λ w. word_length w ≤ most_length) by v kept.lengths)
     (let e : length (scaled by v) ≡ length v = length-scaled by v in omega (arith, kept.terms))
 
 -- sums

@@ -10,11 +10,11 @@ use Rattle.std.proofs.lemmas.List.Elements.{All-nil, All-cons, All-append, All-s
 use Rattle.ve_theory.specs.Elements.{AlgebraElement}
 use Rattle.ve_theory.specs.Presentations.{inverse_relators}
 use Rattle.ve_theory.specs.Validity.{AreBeside, algebra_cells, is_name, is_rooted}
+use Rattle.ve_lemmas.proofs.Lists.{All-last}
 use Rattle.ve_word.specs.NameList.{AreLetterNames}
 use Rattle.ve_pres.specs.Drafts.{IsNewName}
 use Rattle.ve_pres.specs.declared.presentation.letters.Letters.{Letters}
 use Rattle.ve_pres.specs.Letters.{AreLetters, AreSame}
-use Rattle.ve_pres.proofs.Gatherings.{All-last}
 
 pub new_name : (names all : List (List ℕ)) (name : List ℕ) → AreLetterNames all → all ≡ names ++ name ∷ [] → IsNewName names name
 new_name names all name whole is = go (let P : List (List ℕ) → Type 0 = λ u. AreLetterNames u in subst P is whole)

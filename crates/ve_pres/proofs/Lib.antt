@@ -1,5 +1,10 @@
+-- ---- words and lists
 mod Orders
 mod Words
+mod LetterLists
+mod Bounds
+
+-- ---- sums and products
 mod Sums
 mod Reduced
 mod GatheringSteps
@@ -8,12 +13,14 @@ mod Merging
 mod MergeSteps
 mod MovedMerges
 mod Products
-mod KeptElements
-mod InAlgebra
 mod PowerSteps
+mod InAlgebra
+
+-- ---- weights and limits
 mod WeightSums
-mod Bounds
-mod LetterLists
-mod ValidPresentations
+pub mod WordBounds
+mod KeptElements
+
+-- ---- presentations
 mod HalfSteps
-mod WordBounds
+mod ValidPresentations

@@ -6,9 +6,11 @@ use Rattle.ve_theory.specs.Residues.{Congruent}
 use Rattle.ve_theory.specs.Combinations.{coefficient, Alike, AllBefore, IsReduced, IsReducedOf}
 use Rattle.ve_theory.specs.Words.{Word, same_word, Shortlex}
 use Rattle.ve_theory.specs.Elements.{Element}
+use Rattle.ve_lemmas.proofs.Sums.{All_from_AllBefore, AllBefore_from_All, coefficient-append}
+use Rattle.ve_lemmas.proofs.Residues.{congruent-add}
 use Rattle.ve_pres.proofs.Orders.{shortlex_transitive}
-use Rattle.ve_pres.proofs.Sums.{congruent-add, coefficient-append, Alike-append}
-use Rattle.ve_pres.proofs.Reduced.{All_from_AllBefore, AllBefore_from_All, IsReduced-push}
+use Rattle.ve_pres.proofs.Sums.{Alike-append}
+use Rattle.ve_pres.proofs.Reduced.{IsReduced-push}
 
 -- the words of v are before all words of the sum
 abbrev pub IsBelow : Element → Element → Type 0

@@ -6,10 +6,10 @@ use Rattle.std.specs.List.Sorted.{IsPartitionedBy}
 use Rattle.ve_theory.specs.Combinations.{AllBefore, IsReduced, IsReducedOf}
 use Rattle.ve_theory.specs.Words.{Word, Shortlex, same_word}
 use Rattle.ve_theory.specs.Elements.{Element}
+use Rattle.ve_lemmas.proofs.Sums.{All_from_AllBefore, AllBefore_from_All}
 use Rattle.ve_pres.specs.declared.term.Term.{Term}
 use Rattle.ve_pres.specs.Terms.{pairs}
 use Rattle.ve_pres.proofs.Orders.{is_before, before_from_test, test_before, shortlex_transitive}
-use Rattle.ve_pres.proofs.Reduced.{All_from_AllBefore, AllBefore_from_All}
 use Rattle.ve_pres.proofs.Merging.{IsBelow, IsMerging, AllBefore-higher, IsReduced-append}
 use Rattle.ve_pres.proofs.MergeSteps.{left_residue, right_residue, push_left, push_right, push_both, ends_left, ends_right}
 

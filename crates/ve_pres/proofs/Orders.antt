@@ -5,24 +5,10 @@ use Rattle.std.specs.Cmp.{IsStrictWeakOrder}
 use Rattle.std.specs.declared.cmp.Ordering.{Ordering}
 use Rattle.std.specs.declared.cmp.Ordering.TheVariants.{Less, Equal, Greater}
 use Rattle.std.specs.Ordering.{is_lt}
-use Rattle.ve_theory.specs.Words.{Word, generator, start, letters, times_all, word_length, DiffersBelow, Shortlex, spelled_back}
+use Rattle.ve_theory.specs.Words.{Word, start, letters, word_length, DiffersBelow, Shortlex}
+use Rattle.ve_lemmas.proofs.Orders.{differs_irreflexive, differs_transitive}
+use Rattle.ve_lemmas.proofs.Words.{same_words}
 use Rattle.ve_pres.specs.Gathering.{IsAtMost}
-
-pub differs_irreflexive : (u : List ℕ) → DiffersBelow u u → ⊥
-unfolding DiffersBelow
-differs_irreflexive [] h = h
-differs_irreflexive (x ∷ u) (inl h) = omega arith
-differs_irreflexive (x ∷ u) (inr h) = differs_irreflexive u h.1
-
-pub differs_transitive : (u v w : List ℕ) → DiffersBelow u v → DiffersBelow v w → DiffersBelow u w
-unfolding DiffersBelow
-differs_transitive [] v w h k = absurd h
-differs_transitive (x ∷ u) [] w h k = absurd h
-differs_transitive (x ∷ u) (y ∷ v) [] h k = absurd k
-differs_transitive (x ∷ u) (y ∷ v) (z ∷ w) (inl h) (inl k) = inl (omega arith)
-differs_transitive (x ∷ u) (y ∷ v) (z ∷ w) (inl h) (inr k) = inl (omega arith)
-differs_transitive (x ∷ u) (y ∷ v) (z ∷ w) (inr h) (inl k) = inl (omega arith)
-differs_transitive (x ∷ u) (y ∷ v) (z ∷ w) (inr h) (inr k) = inr (h.0 ∙ k.0, differs_transitive u v w h.1 k.1)
 
 -- letters of one length are equal, or differ at some place
 differs_total : (u v : List ℕ) → length u ≡ length v → DiffersBelow u v ⊎ ((u ≡ v) ⊎ DiffersBelow v u)
@@ -41,12 +27,6 @@ differs_total (x ∷ u) (y ∷ v) e = cases (cases_order x y) (differs_total u v
     cases (inl h) later = rest h later
     cases (inr (inl h)) later = inl (inl h)
     cases (inr (inr h)) later = inr (inr (inl h))
-
-pub same_words : (v w : Word) → start v ≡ start w → letters v ≡ letters w → v ≡ w
-same_words v w h k =
-    let a : times_all (generator (start v)) (letters v) ≡ v = spelled_back v in
-    let b : times_all (generator (start w)) (letters w) ≡ w = spelled_back w in
-    cc
 
 pub shortlex_irreflexive : (v : Word) → Shortlex v v → ⊥
 unfolding Shortlex

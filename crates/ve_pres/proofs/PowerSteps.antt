@@ -7,9 +7,9 @@ use Rattle.ve_theory.specs.Combinations.{scaled, coefficient, Alike, IsReduced}
 use Rattle.ve_theory.specs.Words.{same_letters, ShortlexLetters}
 use Rattle.ve_theory.specs.Elements.{AlgebraElement, IsAlgebraElementOf, letters_times, product, power}
 use Rattle.ve_theory.specs.Laws.{ProductsAreBilinear}
+use Rattle.ve_lemmas.proofs.Residues.{congruent-add}
 use Rattle.ve_pres.specs.Powers.{Reaches, first, next, limit_of_product}
 use Rattle.ve_pres.specs.Terms.{HasLettersBelow}
-use Rattle.ve_pres.proofs.Sums.{congruent-add}
 
 -- the power 0
 pub power_zero : (p one exponent : ℕ) (r v : AlgebraElement) → exponent ≡ 0 → one ≡ 1 % p → IsAlgebraElementOf p v (([], one) ∷ []) → IsAlgebraElementOf p v (power r exponent)

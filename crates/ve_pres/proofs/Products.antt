@@ -1,5 +1,5 @@
 -- Scalings and products of elements, term by term, and the lists of terms that hold them.
-use Rattle.std.proofs.Common.{◌≡◌, ℕ, ◌+◌, ◌*◌, ◌%◌, ◌<◌, ◌≤◌, max, List, [], ◌∷◌, ◌++◌, length, get_or, take, All, inl, inr, refl, sym, ap, ap₂, ◌∙◌, append_assoc, length-append, add-one, arith}
+use Rattle.std.proofs.Common.{◌≡◌, ℕ, ◌+◌, ◌*◌, ◌%◌, ◌<◌, ◌≤◌, List, [], ◌∷◌, ◌++◌, length, get_or, take, All, inl, inr, refl, sym, ap, ap₂, ◌∙◌, append_assoc, length-append, add-one, arith}
 use Rattle.std.proofs.Math.Nat.{mod-lt}
 use Rattle.std.proofs.Math.Seq.{take-suc}
 use Rattle.std.proofs.lemmas.List.{map-append, append-nil}
@@ -7,10 +7,11 @@ use Rattle.std.proofs.lemmas.List.Elements.{All-nil, All-cons, All-head, All-tai
 use Rattle.ve_theory.specs.Combinations.{Combination, scaled, IsReduced}
 use Rattle.ve_theory.specs.Words.{Word, letters, times_all, word_length, Shortlex}
 use Rattle.ve_theory.specs.Elements.{Element, AlgebraElement, word_times, element_times, greatest, element_length, algebra_length}
+use Rattle.ve_lemmas.proofs.Words.{letters-times_all}
+use Rattle.ve_lemmas.proofs.Sums.{greatest-le, le-greatest, All-scaled, All_from_AllBefore}
+use Rattle.ve_lemmas.proofs.Products.{All-word_times}
 use Rattle.ve_pres.specs.declared.term.Term.{Term}
 use Rattle.ve_pres.specs.Terms.{pairs, residues}
-use Rattle.ve_pres.proofs.Words.{letters-times_all}
-use Rattle.ve_pres.proofs.Reduced.{All_from_AllBefore}
 
 -- one term more at the end of a list of terms
 pub push_step :
@@ -29,11 +30,6 @@ pub scaled-append : {K : Type 0} (c : ℕ) (u v : Combination K) → scaled c (u
 unfolding scaled
 scaled-append c [] v = refl
 scaled-append c (t ∷ u) v = ap (λ w. (t.0, c * t.1) ∷ w) (scaled-append c u v)
-
-pub length-scaled : {K : Type 0} (c : ℕ) (v : Combination K) → length (scaled c v) ≡ length v
-unfolding scaled
-length-scaled c [] = refl
-length-scaled c (t ∷ v) = omega (arith, length-scaled c v)
 
 -- the next term of a scaling
 pub scaled_step :
@@ -97,17 +93,6 @@ times_step p i items term right before after below is shown step =
 
 -- how many terms
 
-length-word_times : (w : Word) (r : AlgebraElement) → length (word_times w r) ≡ length r
-unfolding word_times
-length-word_times w [] = refl
-length-word_times w (t ∷ r) = omega (arith, length-word_times w r)
-
-pub length-element_times : (v : Element) (r : AlgebraElement) → length (element_times v r) ≡ length v * length r
-unfolding element_times
-length-element_times [] r = omega arith
-length-element_times (t ∷ v) r =
-    omega (arith, length-append (scaled t.1 (word_times t.0 r)) (element_times v r), length-scaled t.1 (word_times t.0 r), length-word_times t.0 r, length-element_times v r)
-
 pub element_times-zero : (v : Element) → element_times v [] ≡ []
 unfolding element_times word_times scaled
 element_times-zero [] = refl
@@ -124,44 +109,16 @@ residues_keep {K} Q p [] all = All-nil (λ (t : K × ℕ). Q t.0)
 residues_keep {K} Q p (t ∷ v) all =
     All-cons (λ (s : K × ℕ). Q s.0) (t.0, t.1 % p) (residues p v) (All-head (λ (s : K × ℕ). Q s.0) t v all) (residues_keep Q p v (All-tail (λ (s : K × ℕ). Q s.0) t v all))
 
-pub scaled_keeps : {K : Type 0} (Q : K → Type 0) (c : ℕ) (v : Combination K) → All (λ t. Q t.0) v → All (λ t. Q t.0) (scaled c v)
-unfolding scaled
-scaled_keeps {K} Q c [] all = All-nil (λ (t : K × ℕ). Q t.0)
-scaled_keeps {K} Q c (t ∷ v) all =
-    All-cons (λ (s : K × ℕ). Q s.0) (t.0, c * t.1) (scaled c v) (All-head (λ (s : K × ℕ). Q s.0) t v all) (scaled_keeps Q c v (All-tail (λ (s : K × ℕ). Q s.0) t v all))
-
-pub word_times_keeps : (Q : Word → Type 0) (w : Word) (r : AlgebraElement) → All (λ t. Q (times_all w t.0)) r → All (λ t. Q t.0) (word_times w r)
-unfolding word_times
-word_times_keeps Q w [] all = All-nil (λ (t : Word × ℕ). Q t.0)
-word_times_keeps Q w (t ∷ r) all =
-    All-cons (λ (s : Word × ℕ). Q s.0) (times_all w t.0, t.1) (word_times w r) (All-head (λ (s : List ℕ × ℕ). Q (times_all w s.0)) t r all)
-    (word_times_keeps Q w r (All-tail (λ (s : List ℕ × ℕ). Q (times_all w s.0)) t r all))
-
 pub element_times_keeps :
     (Q : Word → Type 0) (v : Element) (r : AlgebraElement) → All (λ t. All (λ s. Q (times_all t.0 s.0)) r) v → All (λ t. Q t.0) (element_times v r)
 unfolding element_times
 element_times_keeps Q [] r all = All-nil (λ (t : Word × ℕ). Q t.0)
 element_times_keeps Q (t ∷ v) r all =
     All-append (λ (s : Word × ℕ). Q s.0) (scaled t.1 (word_times t.0 r)) (element_times v r)
-    (scaled_keeps Q t.1 (word_times t.0 r) (word_times_keeps Q t.0 r (All-head (λ (u : Word × ℕ). All (λ (s : List ℕ × ℕ). Q (times_all u.0 s.0)) r) t v all)))
+    (All-scaled Q t.1 (word_times t.0 r) (All-word_times Q t.0 r (All-head (λ (u : Word × ℕ). All (λ (s : List ℕ × ℕ). Q (times_all u.0 s.0)) r) t v all)))
     (element_times_keeps Q v r (All-tail (λ (u : Word × ℕ). All (λ (s : List ℕ × ℕ). Q (times_all u.0 s.0)) r) t v all))
 
 -- lengths
-
-pub within_greatest : {K : Type 0} (size : K → ℕ) (v : Combination K) → All (λ t. size t.0 ≤ greatest size v) v
-unfolding greatest
-within_greatest {K} size [] = All-nil (λ (t : K × ℕ). size t.0 ≤ 0)
-within_greatest {K} size (t ∷ v) =
-    All-cons (λ (s : K × ℕ). size s.0 ≤ max (size t.0) (greatest size v)) t v (omega arith)
-    (All-weaker (λ (s : K × ℕ). size s.0 ≤ greatest size v) (λ (s : K × ℕ). size s.0 ≤ max (size t.0) (greatest size v)) (λ s h. omega arith) v (within_greatest size v))
-
-pub greatest_within : {K : Type 0} (size : K → ℕ) (n : ℕ) (v : Combination K) → All (λ t. size t.0 ≤ n) v → greatest size v ≤ n
-unfolding greatest
-greatest_within size n [] all = omega arith
-greatest_within {K} size n (t ∷ v) all =
-    let a : size t.0 ≤ n = All-head (λ (s : K × ℕ). size s.0 ≤ n) t v all in
-    let b : greatest size v ≤ n = greatest_within size n v (All-tail (λ (s : K × ℕ). size s.0 ≤ n) t v all) in
-    omega arith
 
 shorter : (v w : Word) → Shortlex v w → word_length v ≤ word_length w
 unfolding Shortlex
@@ -173,7 +130,7 @@ pub longest_first : (p : ℕ) (t : Word × ℕ) (v : Element) → IsReduced Shor
 unfolding greatest IsReduced
 longest_first p t v reduced =
     let rest : element_length v ≤ word_length t.0 =
-    greatest_within word_length (word_length t.0) v (All-weaker (λ (s : Word × ℕ). Shortlex s.0 t.0) (λ (s : Word × ℕ). word_length s.0 ≤ word_length t.0) (λ s h. shorter s.0 t.0 h) v (All_from_AllBefore Shortlex t.0 v reduced.2)) in
+    greatest-le word_length (word_length t.0) v (All-weaker (λ (s : Word × ℕ). Shortlex s.0 t.0) (λ (s : Word × ℕ). word_length s.0 ≤ word_length t.0) (λ s h. shorter s.0 t.0 h) v (All_from_AllBefore Shortlex t.0 v reduced.2)) in
     omega arith
 
 pub times_lengths : (v : Element) (r : AlgebraElement) → All (λ t. word_length t.0 ≤ element_length v + algebra_length r) (element_times v r)
@@ -182,5 +139,5 @@ times_lengths v r =
     (All-weaker (λ (t : Word × ℕ). word_length t.0 ≤ element_length v) (λ (t : Word × ℕ). All (λ (s : List ℕ × ℕ). word_length (times_all t.0 s.0) ≤ element_length v + algebra_length r) r)
     (λ t h. All-weaker (λ (s : List ℕ × ℕ). length s.0 ≤ algebra_length r) (λ (s : List ℕ × ℕ). word_length (times_all t.0 s.0) ≤ element_length v + algebra_length r)
     (λ s k. let e : word_length (times_all t.0 s.0) ≡ word_length t.0 + length s.0 = ap length (letters-times_all t.0 s.0) ∙ length-append (letters t.0) s.0 in omega arith)
-    r (within_greatest length r))
-    v (within_greatest word_length v))
+    r (le-greatest length r))
+    v (le-greatest word_length v))

@@ -5,21 +5,9 @@ use Rattle.std.proofs.lemmas.Bool.{cond-true, cond-false, false_from_ne_true}
 use Rattle.std.proofs.lemmas.List.Elements.{All-nil, All-cons, All-head, All-tail, All-append, All-weaker}
 use Rattle.ve_theory.specs.Combinations.{Combination, coefficient, AllBefore, IsReduced, IsReducedOf}
 use Rattle.ve_theory.specs.Words.{Word, same_word, Shortlex}
+use Rattle.ve_lemmas.proofs.Words.{Decides-same_word}
+use Rattle.ve_lemmas.proofs.Sums.{All_from_AllBefore, AllBefore_from_All, coefficient-absent}
 use Rattle.ve_pres.proofs.Orders.{shortlex_irreflexive}
-use Rattle.ve_pres.proofs.Words.{Decides-same_word}
-
--- all keys before one
-
-pub All_from_AllBefore : {K : Type 0} (before : K → K → Type 0) (k : K) (v : Combination K) → AllBefore before k v → All (λ t. before t.0 k) v
-unfolding AllBefore
-All_from_AllBefore {K} before k [] h = All-nil (λ (t : K × ℕ). before t.0 k)
-All_from_AllBefore {K} before k (t ∷ v) h = All-cons (λ (s : K × ℕ). before s.0 k) t v h.0 (All_from_AllBefore before k v h.1)
-
-pub AllBefore_from_All : {K : Type 0} (before : K → K → Type 0) (k : K) (v : Combination K) → All (λ t. before t.0 k) v → AllBefore before k v
-unfolding AllBefore
-AllBefore_from_All before k [] h = tt
-AllBefore_from_All {K} before k (t ∷ v) h =
-    (All-head (λ (s : K × ℕ). before s.0 k) t v h, AllBefore_from_All before k v (All-tail (λ (s : K × ℕ). before s.0 k) t v h))
 
 -- lists that are built from the front to the end
 
@@ -69,14 +57,6 @@ residues_of_reduced {K} before p [] h = All-nil (λ (t : K × ℕ). (0 < t.1) ×
 residues_of_reduced {K} before p (t ∷ v) h = All-cons (λ (s : K × ℕ). (0 < s.1) × (s.1 < p)) t v (h.0, h.1) (residues_of_reduced before p v h.3)
 
 -- keys
-
-pub coefficient-absent : {K : Type 0} (same : K → K → Bool) (v : Combination K) (k : K) → All (λ t. same t.0 k ≡ false) v → coefficient same v k ≡ 0
-unfolding coefficient
-coefficient-absent same [] k absent = refl
-coefficient-absent {K} same (t ∷ v) k absent =
-    let here : cond (same t.0 k) t.1 0 ≡ 0 = cond-false (same t.0 k) t.1 0 (All-head (λ (s : K × ℕ). same s.0 k ≡ false) t v absent) in
-    let rest : coefficient same v k ≡ 0 = coefficient-absent same v k (All-tail (λ (s : K × ℕ). same s.0 k ≡ false) t v absent) in
-    omega arith
 
 -- a key whose coefficient isn't 0 stands in the sum
 stands : (Q : Word → Type 0) (v : Combination Word) (k : Word) → All (λ t. Q t.0) v → (coefficient same_word v k ≡ 0 → ⊥) → Q k

@@ -1,6 +1,6 @@
 -- Formal sums: coefficients, residues, sums in another order.
-use Rattle.std.proofs.Common.{◌≡◌, ℕ, ◌+◌, ◌%◌, Bool, true, false, cond, List, [], ◌∷◌, ◌++◌, refl, sym, ap, ap₂, ◌∙◌, arith}
-use Rattle.std.proofs.Math.Nat.{add-mod, mod-mod}
+use Rattle.std.proofs.Common.{◌≡◌, ℕ, ◌+◌, ◌%◌, Bool, true, false, cond, List, [], ◌∷◌, ◌++◌, refl, sym, ap, ◌∙◌, arith}
+use Rattle.std.proofs.Math.Nat.{mod-mod}
 use Rattle.std.specs.List.{sum_by}
 use Rattle.std.specs.List.Sorted.{IsPermutation}
 use Rattle.std.proofs.lemmas.List.Sums.{sum_by-cons}
@@ -9,16 +9,10 @@ use Rattle.ve_theory.specs.Residues.{Congruent}
 use Rattle.ve_theory.specs.Combinations.{Combination, coefficient, Alike}
 use Rattle.ve_theory.specs.Words.{Word, same_word}
 use Rattle.ve_theory.specs.Elements.{Element}
+use Rattle.ve_lemmas.proofs.Residues.{congruent-add}
+use Rattle.ve_lemmas.proofs.Sums.{coefficient-append}
 use Rattle.ve_pres.specs.declared.term.Term.{Term}
 use Rattle.ve_pres.specs.Terms.{pairs, residues}
-
-pub congruent-add : (p a b c d : ℕ) → Congruent p a b → Congruent p c d → Congruent p (a + c) (b + d)
-congruent-add p a b c d e f = add-mod a c p ∙ (ap₂ (λ x y. (x + y) % p) e f ∙ sym (add-mod b d p))
-
-pub coefficient-append : {K : Type 0} (same : K → K → Bool) (u v : Combination K) (k : K) → coefficient same (u ++ v) k ≡ coefficient same u k + coefficient same v k
-unfolding coefficient
-coefficient-append same [] v k = omega arith
-coefficient-append same (t ∷ u) v k = omega (arith, coefficient-append same u v k)
 
 coefficient-sum_by : (v : Element) (k : Word) → coefficient same_word v k ≡ sum_by (λ t. cond (same_word t.0 k) t.1 0) v
 unfolding coefficient

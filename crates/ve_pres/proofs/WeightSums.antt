@@ -1,7 +1,7 @@
 -- Weights and room, term by term.
-use Rattle.std.proofs.Common.{◌≡◌, ℕ, zero, suc, ◌+◌, ◌<◌, ◌≤◌, max, cond, List, [], ◌∷◌, ◌++◌, length, get_or, take, All, refl, sym, ap, ap₂, ◌∙◌, subst, add-one, arith}
+use Rattle.std.proofs.Common.{◌≡◌, ℕ, ◌+◌, ◌<◌, ◌≤◌, max, cond, List, [], ◌∷◌, ◌++◌, length, get_or, take, All, refl, sym, ap, ap₂, ◌∙◌, subst, add-one, arith}
 use Rattle.std.proofs.Math.Seq.{take-suc}
-use Rattle.std.proofs.lemmas.List.{map-append}
+use Rattle.std.proofs.lemmas.List.{map-append, get_or_default}
 use Rattle.std.proofs.lemmas.List.Sums.{sum_by-cons}
 use Rattle.std.proofs.lemmas.List.Elements.{All-nil, All-cons, All-head, All-tail}
 use Rattle.std.specs.declared.cmp.Ordering.{Ordering}
@@ -9,28 +9,19 @@ use Rattle.std.specs.declared.cmp.Ordering.TheVariants.{Less, Equal, Greater}
 use Rattle.std.specs.Ordering.{MatchOrdering, is_lt, nat_cmp, ord_max}
 use Rattle.std.specs.Cmp.{ranks}
 use Rattle.ve_theory.specs.Combinations.{Combination}
-use Rattle.ve_theory.specs.Words.{Word, generator, times, letters, letter_weight, letters_weight, word_weight, word_length}
+use Rattle.ve_theory.specs.Words.{Word, letters, letter_weight, letters_weight, word_weight, word_length}
 use Rattle.ve_theory.specs.Elements.{Element, AlgebraElement, greatest, element_weight, algebra_weight}
 use Rattle.ve_theory.specs.Validity.{element_cells, algebra_cells}
 use Rattle.ve_theory.specs.Presentations.{most_weight}
+use Rattle.ve_lemmas.proofs.Weights.{letters_weight-push, word_weight-letters}
 use Rattle.ve_pres.specs.declared.term.Term.{Term}
 use Rattle.ve_pres.specs.Terms.{pairs, in_algebra}
 
 -- letters
 
-letters_weight-append : (weights u : List ℕ) (x : ℕ) → letters_weight weights (u ++ x ∷ []) ≡ letters_weight weights u + letter_weight weights x
-unfolding letters_weight
-letters_weight-append weights [] x = omega arith
-letters_weight-append weights (y ∷ u) x = let h : letters_weight weights (u ++ x ∷ []) ≡ letters_weight weights u + letter_weight weights x = letters_weight-append weights u x in omega arith
-
 pub letters_weight-take :
     (weights u : List ℕ) (i : ℕ) → i < length u → letters_weight weights (take (i + 1) u) ≡ letters_weight weights (take i u) + letter_weight weights (get_or u i 0)
-letters_weight-take weights u i below = rw (add-one, take-suc u i 0) (letters_weight-append weights (take i u) (get_or u i 0))
-
-get_or_in_range : (xs : List ℕ) (i d e : ℕ) → i < length xs → get_or xs i d ≡ get_or xs i e
-get_or_in_range [] i d e below = absurd (omega arith)
-get_or_in_range (x ∷ xs) zero d e below = refl
-get_or_in_range (x ∷ xs) (suc i) d e below = get_or_in_range xs i d e (omega arith)
+letters_weight-take weights u i below = rw (add-one, take-suc u i 0) (letters_weight-push weights (take i u) (get_or u i 0))
 
 -- the next letter
 pub letters_step :
@@ -38,7 +29,7 @@ pub letters_step :
     → weight + get_or weights (get_or u i 0) 0 ≡ letters_weight weights (take (i + 1) u)
 letters_step weights u i weight below letters is =
     let inside : get_or u i 0 < length weights = letters i 0 below in
-    omega (arith, letters_weight-take weights u i below, get_or_in_range weights (get_or u i 0) 0 1 inside)
+    omega (arith, letters_weight-take weights u i below, get_or_default weights (get_or u i 0) 0 1 inside)
 
 pub weight_in_range :
     (weights u : List ℕ) (i : ℕ) → i < length u → All (λ x. x < length weights) u → All (λ w. w ≤ most_weight) weights → get_or weights (get_or u i 0) 0 ≤ most_weight
@@ -47,14 +38,6 @@ weight_in_range weights u i below letters small = small (get_or u i 0) 0 (letter
 pub letters_none : (weights u : List ℕ) → letters_weight weights (take 0 u) ≡ 0
 unfolding letters_weight
 letters_none weights u = refl
-
-pub word_weight-letters : (weights : List ℕ) (w : Word) → word_weight weights w ≡ letters_weight weights (letters w)
-unfolding word_weight letters letters_weight
-word_weight-letters weights (generator i) = refl
-word_weight-letters weights (times w x) =
-    let h : word_weight weights w ≡ letters_weight weights (letters w) = word_weight-letters weights w in
-    let k : letters_weight weights (letters w ++ x ∷ []) ≡ letters_weight weights (letters w) + letter_weight weights x = letters_weight-append weights (letters w) x in
-    omega arith
 
 -- terms
 

@@ -4,13 +4,22 @@ use Rattle.std.proofs.lemmas.List.Elements.{All-nil, All-cons, All-append, All-m
 use Rattle.ve_theory.specs.Combinations.{scaled, unit}
 use Rattle.ve_theory.specs.Words.{Word, generator, letters, start, times_all}
 use Rattle.ve_theory.specs.Elements.{Element, AlgebraElement, IsElementOf, element_times}
+use Rattle.ve_lemmas.proofs.Words.{start-times_all, letters-times_all}
+use Rattle.ve_lemmas.proofs.Sums.{All-scaled}
 use Rattle.ve_pres.specs.Terms.{HasLettersBelow, HasWordsBelow, in_algebra}
-use Rattle.ve_pres.proofs.Words.{letters-times_all, start-times_all}
 use Rattle.ve_pres.proofs.Reduced.{words_of_sum}
-use Rattle.ve_pres.proofs.Products.{element_times_keeps, scaled_keeps}
+use Rattle.ve_pres.proofs.Products.{element_times_keeps}
 use Rattle.ve_pres.proofs.WeightSums.{words_in_algebra}
 
 -- the module
+
+pub first_generator : (v : Element) (m n : ℕ) → v ≡ unit (generator 0) → 0 < m → HasWordsBelow m n v
+unfolding start letters
+first_generator v m n is some =
+    let P : Element → Type 0 = λ u. HasWordsBelow m n u in
+    subst P (sym is)
+    (All-cons (λ (t : Word × ℕ). (start t.0 < m) × All (λ (x : ℕ). x < n) (letters t.0)) (generator 0, 1) [] (some, All-nil (λ (x : ℕ). x < n))
+    (All-nil (λ (t : Word × ℕ). (start t.0 < m) × All (λ (x : ℕ). x < n) (letters t.0))))
 
 pub words_of_append : (p m n : ℕ) (w u v : Element) → IsElementOf p w (u ++ v) → HasWordsBelow m n u → HasWordsBelow m n v → HasWordsBelow m n w
 words_of_append p m n w u v sum left right =
@@ -19,7 +28,7 @@ words_of_append p m n w u v sum left right =
 
 pub words_of_scaled : (p c m n : ℕ) (w v : Element) → IsElementOf p w (scaled c v) → HasWordsBelow m n v → HasWordsBelow m n w
 words_of_scaled p c m n w v sum all =
-    words_of_sum (λ x. (start x < m) × All (λ y. y < n) (letters x)) p w (scaled c v) sum (scaled_keeps (λ x. (start x < m) × All (λ (y : ℕ). y < n) (letters x)) c v all)
+    words_of_sum (λ x. (start x < m) × All (λ y. y < n) (letters x)) p w (scaled c v) sum (All-scaled (λ x. (start x < m) × All (λ (y : ℕ). y < n) (letters x)) c v all)
 
 pub words_of_times : (p m n : ℕ) (w v : Element) (r : AlgebraElement) → IsElementOf p w (element_times v r) → HasWordsBelow m n v → HasLettersBelow n r → HasWordsBelow m n w
 words_of_times p m n w v r sum left right =
@@ -46,7 +55,7 @@ letters_of_append p n w u v r s a b sum left right =
 pub letters_of_scaled : (p c n : ℕ) (w v : Element) (r : AlgebraElement) → in_algebra v ≡ r → IsElementOf p w (scaled c v) → HasLettersBelow n r → HasLettersBelow n (in_algebra w)
 letters_of_scaled p c n w v r a sum all =
     in_algebra_below n w (words_of_sum (λ x. All (λ y. y < n) (letters x)) p w (scaled c v) sum
-    (scaled_keeps (λ x. All (λ (y : ℕ). y < n) (letters x)) c v (words_in_algebra (λ z. All (λ (y : ℕ). y < n) z) v r a all)))
+    (All-scaled (λ x. All (λ (y : ℕ). y < n) (letters x)) c v (words_in_algebra (λ z. All (λ (y : ℕ). y < n) z) v r a all)))
 
 pub letters_of_times :
     (p n : ℕ) (w v : Element) (r s : AlgebraElement) → in_algebra v ≡ r → IsElementOf p w (element_times v s) → HasLettersBelow n r → HasLettersBelow n s → HasLettersBelow n (in_algebra w)

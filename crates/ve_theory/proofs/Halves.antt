@@ -18,7 +18,7 @@ abbrev pub Vanishes : Presentation → AlgebraElement → Type 0
 Vanishes P r = (w : Word) → IsWord P w → Derived P (word_times w r)
 
 -- how many letters the half keeps
-abbrev kept_letters : List ℕ → List ℕ → ℕ
+abbrev pub kept_letters : List ℕ → List ℕ → ℕ
 kept_letters u v = length u - (length u - length v) / 2
 
 halved-not : (inverses : List (Option ℕ)) (s t : List ℕ × ℕ) → inverse_of_letters inverses (drop (kept_letters s.0 t.0) s.0) ≡ None → halved inverses (s ∷ t ∷ []) ≡ s ∷ t ∷ []

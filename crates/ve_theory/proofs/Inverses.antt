@@ -36,13 +36,14 @@ one_of_many p (suc n) a h l k = cases (one_of_many p n a) (and_parts (is_inverse
     cases later e (inl m) = let same : suc n ≡ a = omega arith in subst (λ b. is_inverse p b ≡ true) same e.0
     cases later e (inr m) = later e.1 l m
 
-pub has_inverses : (p a : ℕ) → IsFieldPrime p → 0 < a → a < p → (b : ℕ) × (b < p) × Congruent p (a * b) 1
+-- the power with the exponent p - 2 is the inverse
+pub power_inverts : (p a : ℕ) → IsFieldPrime p → 0 < a → a < p → Congruent p (a * (a ^ (p - 2) % p)) 1
 unfolding passes is_inverse inverse
-has_inverses p a f l h =
+power_inverts p a f l h =
     let e : passes p ≡ true = All-contains (λ q. passes q ≡ true) primes p (AllPass-from_list_all passes primes all_pass) f in
     let both = and_parts (ltb 0 p) (have_inverses p (p - 1)) e in
     let k : is_inverse p a ≡ true = one_of_many p (p - 1) a both.1 l (omega arith) in
-    (inverse p a, below, eqb-true (a * inverse p a % p) (1 % p) k)
-  where
-    below : inverse p a < p
-    below = mod_below (a ^ (p - 2)) p (omega arith)
+    eqb-true (a * inverse p a % p) (1 % p) k
+
+pub has_inverses : (p a : ℕ) → IsFieldPrime p → 0 < a → a < p → (b : ℕ) × (b < p) × Congruent p (a * b) 1
+has_inverses p a f l h = (a ^ (p - 2) % p, mod_below (a ^ (p - 2)) p (omega arith), power_inverts p a f l h)

@@ -1,28 +1,38 @@
 -- Lemmas that several proofs share.
-pub mod AnswerKernels
-pub mod ClosedLevels
+
+-- ---- numbers, lists and sums
+pub mod Inverses
+pub mod Members
+pub mod Sums
+pub mod Reduced
+pub mod RisingLists
+
+-- ---- words and products
+pub mod Orders
+pub mod FiniteOrders
+pub mod Products
+pub mod InverseLetters
+pub mod Halves
+pub mod RelatorReaches
+pub mod ValidBounds
+
+-- ---- derivations
 pub mod DerivationTrees
 pub mod DerivedElements
-pub mod Evaluation
-pub mod FinishedLevels
-pub mod FiniteOrders
-pub mod Grown
-pub mod Halves
+pub mod ClosedLevels
 pub mod Independence
-pub mod InverseLetters
-pub mod Inverses
-pub mod Kernels
-pub mod LevelBounds
-pub mod Members
-pub mod OrderedRows
-pub mod Orders
-pub mod Products
-pub mod Reduced
-pub mod RelatorReaches
+
+-- ---- actions and answers
+pub mod Evaluation
 pub mod Remainders
-pub mod RisingLists
-pub mod Sums
+pub mod Kernels
+pub mod OrderedRows
+pub mod AnswerKernels
 pub mod UniqueAnswers
-pub mod UniqueLevels
 pub mod BalancedAnswers
-pub mod ValidBounds
+
+-- ---- levels
+pub mod Grown
+pub mod LevelBounds
+pub mod FinishedLevels
+pub mod UniqueLevels

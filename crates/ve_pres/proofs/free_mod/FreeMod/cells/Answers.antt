@@ -1,9 +1,9 @@
 use Rattle.std.proofs.Common.{◌≤◌, ◌+◌, ◌∙◌, length, ap, arith, sym}
 use Rattle.ve_theory.specs.Words.{word_length}
 use Rattle.ve_theory.specs.Validity.{most_length, most_terms}
+use Rattle.ve_lemmas.proofs.Sums.{greatest-le}
 use Rattle.ve_pres.specs.Terms.{pairs}
 use Rattle.ve_pres.proofs.KeptElements.{kept_view, length-pairs}
-use Rattle.ve_pres.proofs.Products.{greatest_within}
 use Rattle.ve_pres.proofs.WeightSums.{cells_step, word_of_item}
 use Rattle.ve_pres.proofs.free_mod.FreeMod.cells.Goals as goal
 
@@ -29,4 +29,4 @@ loop-term-preserved c = (
 )
 
 pub returns-clause-length : goal.returns-clause-length
-returns-clause-length c = greatest_within word_length most_length c.args.self.now (kept_view _ _ c.self.invariant c.self.view_is).lengths
+returns-clause-length c = greatest-le word_length most_length c.args.self.now (kept_view _ _ c.self.invariant c.self.view_is).lengths

@@ -1,8 +1,9 @@
 use Rattle.std.proofs.Common.{◌≡◌, ◌≤◌, ◌<◌, ◌∙◌, [], All, length, max, ap, ap₂, arith, subst, sym, List, ℕ}
 use Rattle.ve_theory.specs.Words.{letters, letters_weight, word_length, word_weight}
 use Rattle.ve_theory.specs.Validity.{most_length}
+use Rattle.ve_lemmas.proofs.Weights.{word_weight-letters}
 use Rattle.ve_pres.specs.Terms.{pairs}
-use Rattle.ve_pres.proofs.WeightSums.{element_none, greatest_step_on, ord_max-nat, word_of_item, word_weight-letters}
+use Rattle.ve_pres.proofs.WeightSums.{element_none, greatest_step_on, ord_max-nat, word_of_item}
 use Rattle.ve_pres.proofs.free_mod.FreeMod.weight.Goals as goal
 
 pub loop-term-init : goal.loop-term-init
