@@ -19,9 +19,10 @@ use Rattle.ve_theory.proofs.Reduced.{All_from_AllBefore}
 use Rattle.ve_lemmas.proofs.Words.{same_letters-true}
 use Rattle.ve_formats.proofs.SameNames.{same_letters-false}
 use Rattle.ve_formats.proofs.SpacedPieces.{Lacks, fronts_once, pieces_once, after_space-cut, decimal_lacks, words_once, IsWritten}
-use Rattle.ve_formats.proofs.AnswerRows.{length-numbers_below, number_at, absent, small}
+use Rattle.ve_formats.proofs.AnswerRows.{absent, small}
 use Rattle.ve_formats.proofs.AnswerSteps.{version_filled, prime_filled, names_filled, generators_filled, level_filled, dimension_filled, word_filled, image_filled, letter_filled, row_filled, end_filled, IsKept, IsOnTheWay, grown_written, names_lack}
 use Rattle.ve_formats.proofs.AnswerOutcomes.{on_the_way}
+use Rattle.ve_formats.proofs.NumbersBelow.{length-numbers_below, number_at}
 
 abbrev pub Choice : Type 0 → Type 0
 Choice P = P ⊎ (P → ⊥)
@@ -103,9 +104,6 @@ spaced text = by_first (cut text)
     ]
 
 -- ---- names
-
-is_formed : List ℕ → Type 0
-is_formed name = IsTrue (is_name name) × IsFalse (is_rooted name)
 
 formed : (name : List ℕ) → Choice (IsTrue (is_name name) × IsFalse (is_rooted name))
 formed name = elim (cases_Bool (is_name name)) [

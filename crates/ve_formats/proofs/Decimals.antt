@@ -22,6 +22,10 @@ digits_test = record {
 own : IsNumeralModel (λ ds. IsTrue (list_all is_digit ds)) number_value
 own = numerals_by_weight (λ ds. IsTrue (list_all is_digit ds)) digits_test number_value (record { empty = refl; more = λ d ds range. refl })
 
+pub number_digits : (ds : List ℕ) → IsTrue (is_number ds) → IsTrue (list_all is_digit ds)
+number_digits [] h = refl
+number_digits (d ∷ ds) h = h
+
 is_number-nonempty : (ds : List ℕ) → IsTrue (list_all is_digit ds) → 0 < length ds → IsTrue (is_number ds)
 is_number-nonempty [] all some = absurd (omega arith)
 is_number-nonempty (d ∷ ds) all some = all

@@ -1,6 +1,6 @@
 -- A draft's presentation stays one in which expressions have values.
-use Rattle.std.proofs.Common.{◌≡◌, ◌≢◌, ℕ, zero, suc, ◌+◌, ◌<◌, ◌≤◌, List, [], ◌∷◌, ◌++◌, length, length-append, get_or, Contains, AllPairs, Option, Some, None, Result, Ok, Err, refl, ◌∙◌, arith}
-use Rattle.std.specs.Prelude.{slice_get}
+use Rattle.std.proofs.Common.{◌≡◌, ◌≢◌, ℕ, zero, suc, ◌+◌, ◌<◌, ◌≤◌, List, [], ◌∷◌, ◌++◌, length, length-append, get_or, Contains, AllPairs, Option, Some, None, Result, refl, ◌∙◌, arith}
+use Rattle.std.specs.Prelude.{slice_get, IfOk}
 use Rattle.std.proofs.Math.Nat.{le_refl}
 use Rattle.std.proofs.lemmas.List.{get_or_default}
 use Rattle.std.proofs.lemmas.List.Quantifiers.{all_pairs_push}
@@ -63,11 +63,7 @@ with_pair_readable P x y readable h k =
           (λ z is. let same : length P.names ≡ z = (cc) in omega (arith, some, count, same));
     }
 
-abbrev IfReadable : Result Draft Cause → Type 0
-IfReadable (Ok next) = IsReadable next.presentation
-IfReadable (Err cause) = Unit {0}
-
-works_readable : {draft : Draft} {line : Line} {r : Result Draft Cause} → IsReadable draft.presentation → Works draft line r → IfReadable r
+works_readable : {draft : Draft} {line : Line} {r : Result Draft Cause} → IsReadable draft.presentation → Works draft line r → IfOk r (λ next. IsReadable next.presentation)
 works_readable readable (takes_version n) = record { field = readable.field; distinct = readable.distinct; generators = readable.generators; inverses = readable.inverses }
 works_readable readable (takes_prime n h) = record { field = h; distinct = readable.distinct; generators = readable.generators; inverses = readable.inverses }
 works_readable readable (refuses_prime n h) = tt

@@ -1,14 +1,15 @@
 -- A draft's presentation is valid after each line.
-use Rattle.std.proofs.Common.{◌≡◌, ◌≢◌, ℕ, ◌+◌, ◌*◌, ◌-◌, ◌<◌, ◌≤◌, ◌⊎◌, inl, inr, Bool, true, false, List, [], ◌∷◌, ◌++◌, length, length-append, All, Option, Some, None, Result, Ok, Err, refl, sym, subst, ap, ◌∙◌, append-nil, arith}
-use Rattle.std.specs.Prelude.{IsTrue, IsFalse, sum_by}
+use Rattle.std.proofs.Common.{◌≡◌, ◌≢◌, ℕ, ◌+◌, ◌-◌, ◌<◌, ◌≤◌, ◌⊎◌, inl, inr, Bool, true, false, List, [], ◌∷◌, ◌++◌, length, length-append, All, Option, Some, None, Result, refl, sym, subst, ap, ◌∙◌, append-nil, arith}
+use Rattle.std.specs.Prelude.{IsTrue, IsFalse, sum_by, IfOk}
 use Rattle.std.proofs.lemmas.List.Elements.{All-nil, All-push, All-weaker}
-use Rattle.std.proofs.lemmas.List.Sums.{sum_by-append, sum_by-cons, sum_by_push}
+use Rattle.std.proofs.lemmas.List.Sums.{sum_by-append, sum_by_push}
 use Rattle.ve_theory.specs.Combinations.{IsReduced}
 use Rattle.ve_theory.specs.Words.{start, letters, Shortlex, ShortlexLetters}
 use Rattle.ve_theory.specs.Elements.{AlgebraElement, Element, IsAlgebraElementOf, algebra_length, element_length, halved}
 use Rattle.ve_theory.specs.Presentations.{Presentation, HasLetters, IsWord, inverse_relators, most_weight}
 use Rattle.ve_theory.specs.Validity.{IsValid, most_letters, most_relations, most_terms, most_length, most_cells, is_name, is_rooted, algebra_cells, element_cells, cells}
 use Rattle.ve_theory.specs.Laws.{ReducedListsAreUnique}
+use Rattle.ve_lemmas.proofs.Relators.{inverse_cells}
 use Rattle.ve_formats.specs.Causes.{Cause}
 use Rattle.ve_formats.specs.Values.{IsReadable, IsAlgebraValue}
 use Rattle.ve_formats.specs.ModuleValues.{IsModuleValue}
@@ -104,15 +105,6 @@ valid_of draft readable s =
     }
 
 -- room, while there are letters alone
-
-pub inverse_cells : (p x : ℕ) (inverses : List (Option ℕ)) → sum_by algebra_cells (inverse_relators p x inverses) ≤ 4 * length inverses
-unfolding inverse_relators
-inverse_cells p x [] = omega arith
-inverse_cells p x (None ∷ inverses) = let rest = inverse_cells p (x + 1) inverses in omega (arith, rest)
-inverse_cells p x (Some y ∷ inverses) =
-    let rest = inverse_cells p (x + 1) inverses in
-    let all = sum_by-cons algebra_cells ((x ∷ y ∷ [], 1) ∷ ([], p - 1) ∷ []) (inverse_relators p (x + 1) inverses) in
-    omega (arith, rest, all)
 
 open_cells : (P : Presentation) → NoRelations P → length P.inverses ≤ most_letters → cells P ≤ most_cells
 open_cells P empty few =
@@ -341,17 +333,13 @@ module _ (draft : Draft) (s : IsSound draft) where
         empty = tt;
       }
 
-abbrev IfSound : Result Draft Cause → Type 0
-IfSound (Ok next) = IsSound next
-IfSound (Err cause) = Unit {0}
-
 module _ (unique : ReducedListsAreUnique) where
   relator_value : (P : Presentation) → IsReadable P → (v r : AlgebraElement) → IsAlgebraValue P v → IsRelatorOf P v r
       → IsAlgebraValue P r × (IsTrue P.is_balanced → IsAlgebraElementOf P.prime r (halved P.inverses r))
   relator_value P readable v r value (inl h) = let half = half_value unique P readable value h.1 in (half.0, λ balanced. half.1)
   relator_value P readable v r value (inr h) = (subst (λ (u : AlgebraElement). IsAlgebraValue P u) (sym h.1) value, λ balanced. let plain = h.0 in absurd (cc))
 
-  works_sound : (draft : Draft) → IsReadable draft.presentation → IsSound draft → {line : Line} {r : Result Draft Cause} → DeclaresNames line → MayStand draft line → Works draft line r → IfSound r
+  works_sound : (draft : Draft) → IsReadable draft.presentation → IsSound draft → {line : Line} {r : Result Draft Cause} → DeclaresNames line → MayStand draft line → Works draft line r → IfOk r IsSound
   works_sound draft readable s names stands (takes_version n) = version_sound draft s n stands.1 (subst (λ stage. EmptyAt stage draft.presentation) stands.0 s.empty)
   works_sound draft readable s names stands (takes_prime n h) =
       let empty : NoLetters draft.presentation = subst (λ stage. EmptyAt stage draft.presentation) stands s.empty in prime_sound draft s n empty.relations

@@ -1,5 +1,5 @@
 -- The half of a value is a value, and its own half.
-use Rattle.std.proofs.Common.{◌≡◌, ℕ, ◌+◌, ◌-◌, ◌/◌, ◌<◌, ◌≤◌, ◌⊎◌, inl, inr, List, [], ◌∷◌, ◌++◌, length, take, drop, All, Option, Some, None, refl, sym, subst, ap, ◌∙◌, length-append, arith}
+use Rattle.std.proofs.Common.{◌≡◌, ℕ, ◌+◌, ◌-◌, ◌<◌, ◌≤◌, ◌⊎◌, inl, inr, List, [], ◌∷◌, ◌++◌, length, take, drop, All, Option, Some, None, refl, sym, subst, ap, ◌∙◌, length-append, arith}
 use Rattle.std.specs.Prelude.{slice_get}
 use Rattle.std.proofs.lemmas.List.{length-take-le, length-drop}
 use Rattle.std.proofs.lemmas.List.Elements.{All-nil, All-cons, All-head, All-tail, All-append, All-push, All-take}
@@ -8,7 +8,7 @@ use Rattle.ve_theory.specs.Words.{ShortlexLetters}
 use Rattle.ve_theory.specs.Elements.{AlgebraElement, IsAlgebraElementOf, inverse_of_letters, halved}
 use Rattle.ve_theory.specs.Presentations.{Presentation, letter_count}
 use Rattle.ve_theory.specs.Laws.{ReducedListsAreUnique}
-use Rattle.ve_lemmas.proofs.Halves.{inverted, own_half}
+use Rattle.ve_lemmas.proofs.Halves.{inverted, own_half, kept_letters}
 use Rattle.ve_formats.specs.Values.{IsReadable, IsAlgebraValue}
 use Rattle.ve_formats.proofs.ElementSums.{prime_positive}
 use Rattle.ve_formats.proofs.KeptTerms.{letters_kept, terms_kept}
@@ -28,25 +28,22 @@ module _ (n : ℕ) (inverses : List (Option ℕ)) (below : (x y : ℕ) → slice
 
 -- an element is its own half, or is cut
 
-abbrev kept : List ℕ → List ℕ → ℕ
-kept u v = length u - (length u - length v) / 2
-
 record IsCut (inverses : List (Option ℕ)) (v : AlgebraElement) : Type 0 where
   first : List ℕ × ℕ
   second : List ℕ × ℕ
   are : v ≡ first ∷ second ∷ []
   inverse : List ℕ
-  is_inverse : inverse_of_letters inverses (drop (kept first.0 second.0) first.0) ≡ Some inverse
-  half : halved inverses v ≡ (take (kept first.0 second.0) first.0, first.1) ∷ (second.0 ++ inverse, second.1) ∷ []
+  is_inverse : inverse_of_letters inverses (drop (kept_letters first.0 second.0) first.0) ≡ Some inverse
+  half : halved inverses v ≡ (take (kept_letters first.0 second.0) first.0, first.1) ∷ (second.0 ++ inverse, second.1) ∷ []
 
 half_cases : (inverses : List (Option ℕ)) (v : AlgebraElement) → (halved inverses v ≡ v) ⊎ IsCut inverses v
 unfolding halved
 half_cases inverses [] = inl refl
 half_cases inverses (s ∷ []) = inl refl
 half_cases inverses (s ∷ t ∷ r ∷ v) = inl refl
-half_cases inverses (s ∷ t ∷ []) = by_inverse (inverse_of_letters inverses (drop (kept s.0 t.0) s.0)) refl
+half_cases inverses (s ∷ t ∷ []) = by_inverse (inverse_of_letters inverses (drop (kept_letters s.0 t.0) s.0)) refl
   where
-    by_inverse : (o : Option (List ℕ)) → inverse_of_letters inverses (drop (kept s.0 t.0) s.0) ≡ o → (halved inverses (s ∷ t ∷ []) ≡ s ∷ t ∷ []) ⊎ IsCut inverses (s ∷ t ∷ [])
+    by_inverse : (o : Option (List ℕ)) → inverse_of_letters inverses (drop (kept_letters s.0 t.0) s.0) ≡ o → (halved inverses (s ∷ t ∷ []) ≡ s ∷ t ∷ []) ⊎ IsCut inverses (s ∷ t ∷ [])
     by_inverse None e = inl (rw e refl)
     by_inverse (Some inverse) e = inr (record { first = s; second = t; are = refl; inverse = inverse; is_inverse = e; half = rw e refl })
 
@@ -63,7 +60,7 @@ module _ (unique : ReducedListsAreUnique) (P : Presentation) (readable : IsReada
   cut_value {v} {r} h is c =
       let s = c.first in
       let t = c.second in
-      let n : ℕ = kept s.0 t.0 in
+      let n : ℕ = kept_letters s.0 t.0 in
       let half : AlgebraElement = (take n s.0, s.1) ∷ (t.0 ++ c.inverse, t.1) ∷ [] in
       let of_half : IsAlgebraElementOf P.prime r half = subst (λ e. IsAlgebraElementOf P.prime r e) c.half is in
       let keys : All (λ q. IsShort P q.0) (s ∷ t ∷ []) = subst (λ (u : AlgebraElement). All (λ q. IsShort P q.0) u) c.are (keys_of unique P readable h) in

@@ -1,41 +1,53 @@
+-- ---- texts and tokens
 mod Fronts
 mod Lexing
 mod Places
-mod Decimals
 mod TextLines
-mod CanonicalTerms
-mod CanonicalModuleTerms
-mod WrittenLines
-mod WrittenTerms
-mod CanonicalLines
-mod CanonicalLetters
-mod CanonicalSpelling
+pub mod Decimals
+pub mod NumbersBelow
 mod SameNames
+mod SpacedPieces
+pub mod Depth
+
+-- ---- expressions
 mod Parsing
 mod ParsedSpelling
 mod ModuleParsing
 mod ModuleParsedSpelling
-mod LineForms
+
+-- ---- values
 mod Collecting
 mod WordOrders
 mod KeptTerms
 mod SumTerms
+mod ElementSums
 mod ValueElements
 mod ModuleValueElements
-mod Halving
-mod DeclaredLetters
-mod NamedTokens
-mod DraftValidity
-mod ElementSums
 mod ExpressionValues
 mod ModuleExpressionValues
+mod Halving
+
+-- ---- presentations, line by line
+mod LineForms
 mod LineWork
-mod DraftInvariant
-mod Depth
 mod Standing
+mod DeclaredLetters
+mod NamedTokens
+mod DraftInvariant
+mod DraftValidity
 mod LineOutcomes
 mod TextOutcomes
-mod SpacedPieces
+
+-- ---- canonical texts
+mod WrittenLines
+mod WrittenTerms
+mod CanonicalTerms
+mod CanonicalModuleTerms
+mod CanonicalLines
+mod CanonicalLetters
+mod CanonicalSpelling
+
+-- ---- answers
 mod AnswerRows
 mod AnswerSteps
 mod AnswerOutcomes

@@ -14,9 +14,8 @@ use Rattle.ve_formats.specs.WordText.{word_text, letter_name}
 use Rattle.ve_formats.specs.AnswerReading.{AreNames}
 use Rattle.ve_formats.specs.Lines.{each_after_space}
 pub use Rattle.ve_formats.specs.Pieces.{IsCutBy, IsWritten, Lacks}
-use Rattle.ve_formats.specs.Tokens.{is_number}
 use Rattle.ve_formats.specs.AnswerText.{numbered}
-use Rattle.ve_formats.proofs.Decimals.{is_number-decimal}
+use Rattle.ve_formats.proofs.Decimals.{is_number-decimal, number_digits}
 
 -- ---- the front of a text up to a byte
 
@@ -71,10 +70,6 @@ digits_lack b below (d ∷ ds) all =
     let least : 48 ≤ d = leb-true 48 d (and_parts (nat_le 48 d) (nat_le d 57) parts.0).0 in
     and_from _ _ (differs d b (λ is. omega (arith, least))) (digits_lack b below ds parts.1)
 
-pub number_digits : (ds : List ℕ) → IsTrue (is_number ds) → IsTrue (list_all is_digit ds)
-number_digits [] h = refl
-number_digits (d ∷ ds) h = h
-
 pub decimal_lacks : (b n : ℕ) → b < 48 → n < 2 ^ 64 → Lacks b (decimal n)
 decimal_lacks b n below small = digits_lack b below (decimal n) (number_digits (decimal n) (is_number-decimal n small))
 
@@ -87,9 +82,6 @@ numbers_once word m n small other is =
     decimal_injective m n small other same
 
 -- ---- names
-
-is_part : ℕ → Bool
-is_part c = is_name_letter c || is_digit c
 
 parts_lack : (b : ℕ) → IsFalse (is_name_letter b || is_digit b) → (text : List ℕ) → IsTrue (list_all (λ c. is_name_letter c || is_digit c) text) → Lacks b text
 parts_lack b none [] all = refl
