@@ -8,13 +8,11 @@ pub mod NumbersBelow
 mod SameNames
 mod SpacedPieces
 pub mod Depth
-
 -- ---- expressions
 mod Parsing
 mod ParsedSpelling
 mod ModuleParsing
 mod ModuleParsedSpelling
-
 -- ---- values
 mod Collecting
 mod WordOrders
@@ -26,7 +24,6 @@ mod ModuleValueElements
 mod ExpressionValues
 mod ModuleExpressionValues
 mod Halving
-
 -- ---- presentations, line by line
 mod LineForms
 mod LineWork
@@ -37,7 +34,6 @@ mod DraftInvariant
 mod DraftValidity
 mod LineOutcomes
 mod TextOutcomes
-
 -- ---- canonical texts
 mod WrittenLines
 mod WrittenTerms
@@ -46,7 +42,6 @@ mod CanonicalModuleTerms
 mod CanonicalLines
 mod CanonicalLetters
 mod CanonicalSpelling
-
 -- ---- answers
 mod AnswerRows
 mod AnswerSteps

@@ -3,7 +3,6 @@ mod Orders
 mod Words
 mod LetterLists
 mod Bounds
-
 -- ---- sums and products
 mod Sums
 mod Reduced
@@ -15,12 +14,10 @@ mod MovedMerges
 mod Products
 mod PowerSteps
 mod InAlgebra
-
 -- ---- weights and limits
 mod WeightSums
 pub mod WordBounds
 mod KeptElements
-
 -- ---- presentations
 mod HalfSteps
 mod ValidPresentations

@@ -83,14 +83,14 @@ never_both text at cut none =
 pub split_once : (text : List ℕ) (at other : ℕ) → at ≤ length text → other ≤ length text → IsSplitAt text at → IsSplitAt text other → at ≡ other
 split_once text at other within also (inl cut) (inl behind) =
     let same : lines_of (drop at text) ≡ lines_of (drop other text) =
-        one_first cut.front behind.front cut.last behind.last (lines_of (drop at text)) (lines_of (drop other text)) cut.first behind.first cut.is_end behind.is_end
-        (sym (whole_lines text at cut) ∙ whole_lines text other behind) in
+    one_first cut.front behind.front cut.last behind.last (lines_of (drop at text)) (lines_of (drop other text)) cut.first behind.first cut.is_end behind.is_end
+    (sym (whole_lines text at cut) ∙ whole_lines text other behind) in
     elim (cases_lt at other) [
       | inl before ↦ absurd (not_before text at other also same before)
       | inr from ↦ elim (cases_lt other at) [
-          | inl after ↦ absurd (not_before text other at within (sym same) after)
-          | inr upto ↦ omega arith
-        ]
+        | inl after ↦ absurd (not_before text other at within (sym same) after)
+        | inr upto ↦ omega arith
+      ]
     ]
 split_once text at other within also (inl cut) (inr (end, none)) = absurd (never_both text at cut none)
 split_once text at other within also (inr (end, none)) (inl cut) = absurd (never_both text other cut none)

@@ -6,7 +6,6 @@ pub mod Members
 pub mod Sums
 pub mod Reduced
 pub mod RisingLists
-
 -- ---- words and products
 pub mod Orders
 pub mod FiniteOrders
@@ -15,13 +14,11 @@ pub mod InverseLetters
 pub mod Halves
 pub mod RelatorReaches
 pub mod ValidBounds
-
 -- ---- derivations
 pub mod DerivationTrees
 pub mod DerivedElements
 pub mod ClosedLevels
 pub mod Independence
-
 -- ---- actions and answers
 pub mod Evaluation
 pub mod Remainders
@@ -30,7 +27,6 @@ pub mod OrderedRows
 pub mod AnswerKernels
 pub mod UniqueAnswers
 pub mod BalancedAnswers
-
 -- ---- levels
 pub mod Grown
 pub mod LevelBounds

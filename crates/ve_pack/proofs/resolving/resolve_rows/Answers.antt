@@ -20,7 +20,8 @@ loop-id-init c = record {
       (omega (
         arith,
         c.first_of_reach-first.ensures.below b less,
-        c.saturating_sub-least.ensures, c.from.ensures,
+        c.saturating_sub-least.ensures,
+        c.from.ensures,
         c.reach.ensures.reach,
         c.from-step.ensures,
         c.greatest_weight.ensures,
