@@ -9,6 +9,3 @@ mod token;
 pub use lexer::{next_token, tokens};
 pub use lines::next_line;
 pub use token::{LexFault, Placed, Token};
-
-#[cfg(test)]
-mod tests;

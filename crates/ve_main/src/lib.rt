@@ -12,6 +12,3 @@ mod writing;
 
 pub use run::run_alone;
 pub use ve_words::{Command, WordsFault, read_words};
-
-#[cfg(test)]
-mod tests;

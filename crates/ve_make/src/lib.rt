@@ -6,6 +6,3 @@ mod lines;
 mod symmetric;
 
 pub use symmetric::make;
-
-#[cfg(test)]
-mod tests;

@@ -11,6 +11,3 @@ mod summary;
 pub use answer::write_answer;
 pub use over::write_over;
 pub use summary::write_summary;
-
-#[cfg(test)]
-mod tests;

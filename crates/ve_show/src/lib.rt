@@ -8,6 +8,3 @@ mod sums;
 mod text;
 
 pub use text::show;
-
-#[cfg(test)]
-mod tests;

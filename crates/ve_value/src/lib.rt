@@ -16,6 +16,3 @@ pub use module_value::module_difference_of;
 pub use names::text_of;
 pub use shape::is_expression;
 pub use value::difference_of;
-
-#[cfg(test)]
-mod tests;

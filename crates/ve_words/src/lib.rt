@@ -12,6 +12,3 @@ pub use command::Command;
 pub use fault::WordsFault;
 pub use laws::words_mean_once;
 pub use words::read_words;
-
-#[cfg(test)]
-mod tests;

@@ -1,4 +1,4 @@
-use crate::write_over;
+use ve_out::write_over;
 use std::test::Fail;
 use ve_port::{MemSink, OutFault};
 

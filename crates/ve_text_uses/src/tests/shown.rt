@@ -1,6 +1,6 @@
 //! Texts with relations are shown by the commands above, which read them too.
 
-use crate::show;
+use ve_show::show;
 use std::test::Fail;
 use ve_field::Field;
 use ve_port::{MemSink, OutFault};

@@ -1,6 +1,6 @@
 //! Runs from bytes to bytes: each row is an input, with what the streams do, and what the run leaves.
 
-use crate::run_alone;
+use ve_main::run_alone;
 use std::alloc::Global;
 use std::test::Fail;
 use ve_port::{MemSink, MemSource};
@@ -16,7 +16,7 @@ const TWO_CYCLE_ANSWER: &str =
 const FIELD_OF_FOUR: &str = "venum 1\nprime 2\nletter x\nmodule 1\nrelation x^2 = x + 1\nend\n";
 
 /// Texts with their answers.
-const ANSWERED: [(&str, &str); 12] = [
+const ANSWERED: [(&str, &str); 11] = [
     (
         "venum 1\nprime 5\nletter x\nmodule 1\nrelation x = 1\nrelation x = 2\nend\n",
         "venum-answer 1\nprime 5\nletters x\nmodule 1\nclosed 1\ndimension 0\nimage\nletter x\nend\n",
@@ -40,14 +40,9 @@ const ANSWERED: [(&str, &str); 12] = [
     ),
     (TWO_CYCLE, TWO_CYCLE_ANSWER),
     (TWO_CYCLE_SHOWN, TWO_CYCLE_ANSWER),
-    // The last line feed may be missing.
-    (
-        "venum 1\nprime 2\nletter x\nmodule 1\nrelation x^2 = 1\nend",
-        TWO_CYCLE_ANSWER,
-    ),
     // The idempotent cube, among comments and blanks.
     (
-        "# a cube\n\nvenum 1\nprime 02 # two\n\tletter x\nmodule 1\nrelation x^3=x\nend # done\n\n",
+        "# a cube\n\nvenum 1\nprime 02 # two\n\tletter x\nmodule 1\nrelation x^3=x\nend # done\n",
         "venum-answer 1\nprime 2\nletters x\nmodule 1\nclosed 5\ndimension 3\nbasis e1\nbasis e1*x\nbasis e1*x*x\nimage 1 0 0\nletter x\nrow 0 1 0\nrow 0 0 1\nrow 0 1 0\nend\n",
     ),
     // The longer power on the right.
@@ -62,7 +57,16 @@ const ANSWERED: [(&str, &str); 12] = [
 ];
 
 /// Texts with their canonical texts.
-const SHOWN: [(&str, &str); 11] = [
+const SHOWN: [(&str, &str); 13] = [
+    // The last line feed may be missing, and blanks may stand behind the end.
+    (
+        "venum 1\nprime 2\nletter x\nmodule 1\nrelation x^2 = 1\nend",
+        TWO_CYCLE_SHOWN,
+    ),
+    (
+        "venum 1\nprime 2\nletter x\nmodule 1\nrelation x^2 = 1\nend\n\n",
+        TWO_CYCLE_SHOWN,
+    ),
     (
         FIELD_OF_FOUR,
         "venum 1\nprime 2\nletter x\nmodule 1\nrelation x*x + x + 1 = 0\nend\n",
@@ -178,6 +182,75 @@ const TRIANGLE: &str =
 
 const TRIANGLE_ANSWER: &str =
     "venum-answer 1\nprime 3\nletters a b\nmodule 1\nclosed 8\ndimension 3\nbasis e1\nbasis e1*b\nbasis e1*b*a\nimage 1 0 0\nletter a\nrow 1 0 0\nrow 0 0 1\nrow 0 1 0\nletter b\nrow 0 1 0\nrow 1 0 0\nrow 0 0 1\nend\n";
+
+/// Texts with what is claimed as their answers, and how `check` ends.
+const CLAIMED: [(&str, &str, u8, &str, &str); 9] = [
+    (
+        TWO_CYCLE,
+        "venum-answer 1\nprime 2\nletters x\nmodule 1\nclosed 3\ndimension 2\nbasis e1\nbasis e1*x\nimage 1 0\nletter x\nrow 0 1\nrow 1 1\nend\n",
+        7,
+        "no relator 1 row 1\n",
+        "",
+    ),
+    (
+        TWO_CYCLE,
+        "venum-answer 1\nprime 3\nletters x\nmodule 1\nclosed 3\ndimension 2\nbasis e1\nbasis e1*x\nimage 1 0\nletter x\nrow 0 1\nrow 1 0\nend\n",
+        7,
+        "no shape\n",
+        "",
+    ),
+    // The zero module is a quotient of each.
+    (
+        TWO_CYCLE,
+        "venum-answer 1\nprime 2\nletters x\nmodule 1\nclosed 1\ndimension 0\nimage\nletter x\nend\n",
+        0,
+        "yes\n",
+        "",
+    ),
+    (
+        TRIANGLE,
+        "venum-answer 1\nprime 3\nletters a b\nmodule 1\nclosed 8\ndimension 3\nbasis e1\nbasis e1*b\nbasis e1*b*a\nimage 0 1 0\nletter a\nrow 1 0 0\nrow 0 0 1\nrow 0 1 0\nletter b\nrow 0 1 0\nrow 1 0 0\nrow 0 0 1\nend\n",
+        7,
+        "no sub 1\n",
+        "",
+    ),
+    (
+        TRIANGLE,
+        "venum-answer 1\nprime 3\nletters a b\nmodule 1\nclosed 8\ndimension 3\nbasis e1\nbasis e1*b\nbasis e1*b*a\nimage 1 0 0\nletter a\nrow 1 0 0\nrow 0 0 2\nrow 0 2 0\nletter b\nrow 0 1 0\nrow 1 0 0\nrow 0 0 1\nend\n",
+        7,
+        "no basis 3\n",
+        "",
+    ),
+    (
+        TWO_CYCLE,
+        "prime 2\nletters x\nmodule 1\nclosed 3\ndimension 2\nbasis e1\nbasis e1*x\nimage 1 0\nletter x\nrow 0 1\nrow 1 0\nend\n",
+        3,
+        "",
+        "venum: answer line 1: not an answer\n",
+    ),
+    (
+        TWO_CYCLE,
+        "venum-answer 1\nprime 2\nletters x\nmodule 1\nclosed 3\ndimension 2\nbasis e1\nbasis e1*x\nimage 1 0\nletter x\nrow 0 1\nrow 1 0\nend\nend\n",
+        3,
+        "",
+        "venum: answer line 14: not an answer\n",
+    ),
+    (
+        TWO_CYCLE,
+        "",
+        3,
+        "",
+        "venum: answer line 1: not an answer\n",
+    ),
+    // The presentation is judged first.
+    (
+        "venum 1\nprime 9\n",
+        "",
+        3,
+        "",
+        "venum: line 2: not a prime below 256\n",
+    ),
+];
 
 /// Points, node and prime, and how `make` ends.
 const MADE: [(&str, &str, &str, u8, &str, &str); 5] = [
@@ -433,6 +506,20 @@ fn answers(rt: HostRuntime) -> Result<(), Fail> {
                 "{text}"
             );
         }
+        let claim = repeated(rt.alloc(), text, "", 0, answer)?;
+        let left = run(rt.alloc(), &["venum", "check"], claim, SOUND)?;
+        assert!(rt; left.is(0, "yes\n", ""), "{text}");
+    }
+    Ok(())
+}
+
+#[test]
+fn claims(rt: HostRuntime) -> Result<(), Fail> {
+    let alloc = rt.alloc();
+    for (text, answer, status, out, err) in &CLAIMED {
+        let claim = repeated(alloc, text, "", 0, answer)?;
+        let left = run(alloc, &["venum", "check"], claim, SOUND)?;
+        assert!(rt; left.is(*status, out, err), "{answer}");
     }
     Ok(())
 }
@@ -520,7 +607,7 @@ fn refused_words(rt: HostRuntime) -> Result<(), Fail> {
         &["venum", "shared", "--workers", "65"],
         &["venum", "show", "extra"],
         &["venum", "show", "--limit", "7"],
-        &["venum", "check"],
+        &["venum", "check", "extra"],
         &["venum", "make", "--points", "3", "--node", "2"],
     ];
     for words in table {

@@ -1,6 +1,6 @@
 //! Which numbers have a presentation, and how large it is.
 
-use crate::make;
+use ve_make::make;
 use std::test::Fail;
 
 /// Points, node, prime, and how many relators and submodule relations there are; none where there is no presentation.

@@ -1,5 +1,5 @@
 use super::{presentation, tokens};
-use crate::{ValueFault, difference_of, is_expression};
+use ve_value::{ValueFault, difference_of, is_expression};
 use std::alloc::Global;
 use std::test::Fail;
 use ve_pres::{FreeAlg, Limit, Presentation};

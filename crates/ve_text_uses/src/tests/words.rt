@@ -1,6 +1,6 @@
 //! Words and the commands that they mean.
 
-use crate::{Command, WordsFault, read_words};
+use ve_words::{Command, WordsFault, read_words};
 use std::alloc::{AllocError, Global};
 use std::test::Fail;
 

@@ -1,4 +1,4 @@
-use crate::{LexFault, Placed, Token, next_line, next_token, tokens};
+use ve_lex::{LexFault, Placed, Token, next_line, next_token, tokens};
 use std::test::Fail;
 
 macro_rules! name {

@@ -1,5 +1,5 @@
 use super::{presentation, tokens};
-use crate::{ValueFault, is_module_expression, module_difference_of};
+use ve_value::{ValueFault, is_module_expression, module_difference_of};
 use std::alloc::Global;
 use std::test::Fail;
 use ve_pres::{FreeMod, Presentation};

@@ -1,0 +1,7 @@
+mod lines;
+mod made;
+mod outgrown;
+mod runs;
+mod shown;
+mod values;
+mod words;
