@@ -20,7 +20,8 @@ use Rattle.ve_table.proofs.Spelling.{words_are}
 use Rattle.ve_machine.specs.Finished.{IsFinishedTable, IsPacked}
 use Rattle.ve_matrix.specs.declared.answer.Answer.{Answer}
 use Rattle.ve_matrix.specs.Answers.{answer_of, NameEarlierPlaces, IsAnswerValue}
-use Rattle.ve_matrix.specs.Copying.{HasAllRows, IsCopyOf, AreRowsAt}
+use Rattle.ve_table.specs.Parts.{HasAllRows, AreRowsAt}
+use Rattle.ve_matrix.specs.Copying.{IsCopyOf}
 use Rattle.ve_matrix.proofs.Copying.{copied_rows}
 
 parent_below : (words : List Word) (b : ℕ) (o : Origin) (w : Word) → IsOriginOf words b o w → HasParentBelow b o

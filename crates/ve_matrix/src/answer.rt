@@ -2,6 +2,7 @@
 
 mod copies;
 mod evaluation;
+mod moves;
 mod of_table;
 mod words;
 

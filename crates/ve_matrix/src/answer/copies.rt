@@ -3,7 +3,8 @@
 ghost use Rattle.std.specs.Prelude.{◌≡◌, ◌<◌, ◌^◌, IfOk, IsSome, Some, length};
 ghost use Rattle.ve_theory.specs.Presentations.{letter_count};
 ghost use Rattle.ve_table.specs.Tables.{IsId, presented, row_at};
-ghost use Rattle.ve_matrix.specs.Copying.{AreMatricesOf, AreOrigins, AreRowsAt, HasAllRows, IsCopyOf};
+ghost use Rattle.ve_table.specs.Parts.{AreOrigins, AreRowsAt, HasAllRows};
+ghost use Rattle.ve_matrix.specs.Copying.{AreMatricesOf, IsCopyOf};
 
 use crate::{Answer, Matrix};
 use std::alloc::Global;

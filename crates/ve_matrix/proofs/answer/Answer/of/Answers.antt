@@ -1,7 +1,8 @@
 use Rattle.std.proofs.Common.{sym, subst}
 use Rattle.ve_table.specs.Tables.{presented}
 use Rattle.ve_matrix.specs.Answers.{answer_of}
-use Rattle.ve_matrix.specs.Copying.{HasAllRows, IsCopyOf}
+use Rattle.ve_table.specs.Parts.{HasAllRows}
+use Rattle.ve_matrix.specs.Copying.{IsCopyOf}
 use Rattle.ve_matrix.proofs.Answering.{all_rows, module_answer, answer_value}
 use Rattle.ve_matrix.proofs.answer.Answer.of.Goals as goal
 

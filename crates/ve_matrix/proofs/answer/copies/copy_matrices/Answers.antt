@@ -1,5 +1,5 @@
 use Rattle.std.proofs.Common.{ap, ◌∷◌, [], ◌++◌, ◌∙◌, sym, arith}
-use Rattle.ve_matrix.specs.Copying.{AreRowsAt}
+use Rattle.ve_table.specs.Parts.{AreRowsAt}
 use Rattle.ve_matrix.proofs.Tables.{each_pushed}
 use Rattle.ve_matrix.proofs.Copying.{copied_columns}
 use Rattle.ve_matrix.proofs.answer.copies.copy_matrices.Goals as goal

@@ -1,7 +1,7 @@
 use Rattle.std.proofs.Common.{◌≡◌, ℕ, List, Some, slice_get}
 use Rattle.std.specs.Vec.{vec_len, vec_capacity}
 use Rattle.ve_theory.specs.Answers.{Row}
-use Rattle.ve_matrix.specs.Copying.{AreRowsAt}
+use Rattle.ve_table.specs.Parts.{AreRowsAt}
 use Rattle.ve_matrix.proofs.answer.copies.copy_matrices.Given as goal
 
 abbrev pub invariant-loop-letter : goal.invariant-loop-letter
