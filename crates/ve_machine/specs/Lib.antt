@@ -13,3 +13,4 @@ pub mod HandSteps
 pub mod RightHands
 pub mod ImageHands
 pub mod Machines
+pub mod MachineCodes

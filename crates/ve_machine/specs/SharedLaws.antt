@@ -11,7 +11,7 @@ use Rattle.ve_machine.specs.Jobs.{HasForward}
 use Rattle.ve_machine.specs.Finished.{IsFinishedTable, IsOpening, IsPacked}
 use Rattle.ve_machine.specs.Seats.{Death, Job, State, opened_state, present}
 use Rattle.ve_machine.specs.SharedSteps.{Leads, Step}
-use Rattle.ve_machine.specs.Machines.{Goes, IsRightMachine, Machine, Move, opened_machine}
+use Rattle.ve_machine.specs.Machines.{Event, Goes, IsBy, IsRightMachine, Machine, Move, opened_machine}
 use Rattle.ve_machine.specs.Covered.{IsCovered, IsLegalHistory, IsQuiescent, IsSoundState}
 
 -- at the beginning
@@ -63,16 +63,17 @@ StepsGoOn = (S T : State) (seat : ℕ) → Step S seat T → GoesOn S seat T
 
 -- with hands
 
--- A move is a step of the shared machine, or leaves it as it is, and keeps the machine right.
-pub record GoesRight (M : Machine) (seat : ℕ) (N : Machine) : Type 0 where
-  pub shared : Step M.shared seat N.shared ⊎ (N.shared ≡ M.shared)
+-- A move is a step of the shared machine, by whom the event is, or leaves it as it is. It keeps the machine right.
+pub record GoesRight (M : Machine) (event : Event) (N : Machine) : Type 0 where
+  pub shared : ((seat : ℕ) → IsBy event seat → Step M.shared seat N.shared) ⊎ (N.shared ≡ M.shared)
   pub machine : IsRightMachine N
 
 abbrev pub MovesGoRight : Type 0
-MovesGoRight = (M N : Machine) (seat : ℕ) → IsRightMachine M → Move M seat N → GoesRight M seat N
+MovesGoRight = (M N : Machine) (event : Event) → IsRightMachine M → Move M event N → GoesRight M event N
 
+-- after every list of events
 abbrev pub MachinesStayRight : Type 0
-MachinesStayRight = (O : ActionTable) (seats : ℕ) (M : Machine) → IsSound O → IsPacked O → Goes (opened_machine O seats) M → IsRightMachine M
+MachinesStayRight = (O : ActionTable) (seats : ℕ) (events : List Event) (M : Machine) → IsSound O → IsPacked O → Goes (opened_machine O seats) events M → IsRightMachine M
 
 -- at the end
 
