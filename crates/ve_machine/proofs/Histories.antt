@@ -1,5 +1,6 @@
 -- Steps keep the history legal, and journals go on.
 use Rattle.std.proofs.Common.{◌≡◌, ◌≢◌, ℕ, ◌<◌, inl, inr, Some, None, List, [], ◌∷◌, ◌++◌, length, map, get_or, All, AllPairs, Contains, refl, sym, ap, subst, ◌∙◌, append-nil, arith}
+use Rattle.std.proofs.Math.ListN.{set}
 use Rattle.std.specs.Prelude.{slice_get}
 use Rattle.std.proofs.lemmas.List.Elements.{All-cons, All-nil, All-push, All-weaker, Contains-append_left, Contains-push}
 use Rattle.std.proofs.lemmas.List.Quantifiers.{all_pairs_push}
@@ -13,11 +14,12 @@ use Rattle.ve_table.proofs.Killing.{read_set}
 use Rattle.ve_machine.specs.Forwards.{IsDrawnFrom}
 use Rattle.ve_machine.specs.Jobs.{HasForward, IsLiveIn}
 use Rattle.ve_machine.specs.Finished.{IsPacked}
-use Rattle.ve_machine.specs.Seats.{Death, State, opened_state, present}
+use Rattle.ve_machine.specs.Seats.{Death, State, forwards_after, opened_state, present}
 use Rattle.ve_machine.specs.SharedSteps.{CanConclude, Step, deleted, deletes, drops, lifts, reads, returns_job, returns_relation, rewrites, submits, takes}
 use Rattle.ve_machine.specs.Covered.{AvoidsId, IsLegalHistory, IsSoundState}
 use Rattle.ve_machine.specs.SharedLaws.{GoesOn, KeepsKnown, StepsGoOn, StepsKeepHistory}
 use Rattle.ve_machine.proofs.SharedLists.{set_else, set_here}
+use Rattle.ve_machine.proofs.JournalForwards.{forwards_append}
 use Rattle.ve_machine.proofs.KeptKnown.{live_not_dead}
 use Rattle.ve_machine.proofs.DrawnForwards.{drawn_below, drawn_keys}
 use Rattle.ve_machine.proofs.SoundSteps.{death_keeps, drawn_live, sound_after}
@@ -33,6 +35,7 @@ ids_append (c ∷ journal) d = ap (λ l. c.id ∷ l) (ids_append journal d)
 -- a history that other parts of the machine don't touch
 history_kept : (S T : State) → T.opening ≡ S.opening → T.forwards ≡ S.forwards → T.journal ≡ S.journal → IsLegalHistory S → IsLegalHistory T
 history_kept S T opening forwards journal legal = record {
+  so_far = forwards ∙ legal.so_far ∙ ap (λ (O : ActionTable). forwards_after O.forwards S.journal) (sym opening) ∙ ap (forwards_after T.opening.forwards) (sym journal);
   dead = λ b f is. subst (λ j. Contains (ids j) b) (sym journal) (legal.dead b f (subst (λ fs. HasForward fs b f) forwards is));
   once = subst (AllPairs (λ (c d : Death). c.id ≢ d.id)) (sym journal) legal.once;
   forwards = subst (λ fs. All (λ (d : Death). HasForward fs d.id d.forward) T.journal) (sym forwards) (subst (All (λ (d : Death). HasForward S.forwards d.id d.forward)) (sym journal) legal.forwards);
@@ -77,6 +80,7 @@ module _ (inverses : HasInverses) (closed : LevelsAreClosed) (S : State) (seat :
 
     after_death : IsLegalHistory T
     after_death = record {
+      so_far = ap (λ fs. set fs id (Some forward)) legal.so_far ∙ sym (forwards_append O.forwards S.journal death);
       dead = λ b f is.
           subst (λ l. Contains l b) (sym (ids_append S.journal death))
           (elim (read_set S.forwards id b (Some forward) (Some f) is) [
@@ -113,7 +117,9 @@ steps_keep_history inverses closed S T seat sound step legal = legal_after inver
 
 -- where no id is dead the history is empty
 pub history_opens : (O : ActionTable) (seats : ℕ) → IsPacked O → IsLegalHistory (opened_state O seats)
+unfolding forwards_after
 history_opens O seats packed = record {
+  so_far = refl;
   dead = λ b f is. absurd (live_not_dead O.forwards b f (none_here b f is) is);
   once = λ i j d less within. absurd (omega (arith, within));
   forwards = All-nil (λ (d : Death). HasForward O.forwards d.id d.forward);

@@ -10,6 +10,7 @@ pub mod Forwardings
 pub mod FoundVectors
 pub mod Histories
 pub mod ImageJobs
+pub mod JournalForwards
 pub mod KeptKnown
 pub mod KnownElements
 pub mod LiveActions

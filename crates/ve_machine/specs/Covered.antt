@@ -7,7 +7,7 @@ use Rattle.ve_table.specs.Tables.{ActionTable, element_of, presented, row_at, wo
 use Rattle.ve_table.specs.Sound.{IsSound}
 use Rattle.ve_machine.specs.Forwards.{AreLive, Forwards, IsForwarding}
 use Rattle.ve_machine.specs.Jobs.{HasForward, IsLiveIn}
-use Rattle.ve_machine.specs.Seats.{Death, Desk, HasDesk, Job, State, empty_desk, present, with_job, with_relation}
+use Rattle.ve_machine.specs.Seats.{Death, Desk, HasDesk, Job, State, empty_desk, forwards_after, present, with_job, with_relation}
 use Rattle.ve_machine.specs.SharedJobs.{ComesFrom, IsOfLevel, IsVectorOn, IsWaiting}
 
 -- a vector that vanishes by what is derived within the level
@@ -57,8 +57,10 @@ pub record IsQuiescent (S : State) : Type 0 where
 abbrev pub AvoidsId : ℕ → Row → Type 0
 AvoidsId id v = All (λ t. t.0 ≢ id) v
 
--- The journal has each dead id once, with its forward, which is derived. No forward has the id of its own death or of an earlier one.
+-- The journal has each dead id once, with its forward, which is derived, and tells the forwards from the opening's on. No forward has
+-- the id of its own death or of an earlier one.
 pub record IsLegalHistory (S : State) : Type 0 where
+  pub so_far : S.forwards ≡ forwards_after S.opening.forwards S.journal
   pub dead : (b : ℕ) (f : Row) → HasForward S.forwards b f → Contains (map (λ (d : Death). d.id) S.journal) b
   pub once : AllPairs (λ (c d : Death). c.id ≢ d.id) S.journal
   pub forwards : All (λ (d : Death). HasForward S.forwards d.id d.forward) S.journal

@@ -1,5 +1,5 @@
 -- The machine that many seats share at a level: a table at work, jobs and relations, and a desk for each seat.
-use Rattle.std.specs.Prelude.{◌≡◌, ℕ, List, [], Option, Some, set, slice_get, replicate}
+use Rattle.std.specs.Prelude.{◌≡◌, ℕ, List, [], ◌∷◌, Option, Some, set, slice_get, replicate}
 use Rattle.ve_theory.specs.Answers.{Row}
 use Rattle.ve_table.specs.Tables.{ActionTable}
 use Rattle.ve_machine.specs.Forwards.{Forwards}
@@ -21,6 +21,11 @@ pub record Death : Type 0 where
   pub seat : ℕ
   pub id : ℕ
   pub forward : Row
+
+-- the forwards after deaths, one after another
+unfoldable pub forwards_after : Forwards → List Death → Forwards
+forwards_after forwards [] = forwards
+forwards_after forwards (d ∷ journal) = forwards_after (set forwards d.id (Some d.forward)) journal
 
 pub record State : Type 0 where
   -- the table at the beginning of the level, which stays

@@ -9,7 +9,7 @@ use Rattle.ve_machine.specs.Forwards.{Forwards, IsForwarding}
 use Rattle.ve_machine.specs.Known.{Known}
 use Rattle.ve_machine.specs.Jobs.{HasForward}
 use Rattle.ve_machine.specs.Finished.{IsFinishedTable, IsOpening, IsPacked}
-use Rattle.ve_machine.specs.Seats.{Death, Job, State, opened_state, present}
+use Rattle.ve_machine.specs.Seats.{Death, Job, State, forwards_after, opened_state, present}
 use Rattle.ve_machine.specs.SharedSteps.{Leads, Step}
 use Rattle.ve_machine.specs.Machines.{Event, Goes, IsBy, IsRightMachine, Machine, Move, opened_machine}
 use Rattle.ve_machine.specs.Covered.{IsCovered, IsLegalHistory, IsQuiescent, IsSoundState}
@@ -45,6 +45,11 @@ pub record KeepsKnown (O : ActionTable) (old new : Forwards) : Type 0 where
 
 abbrev pub StepsKeepKnown : Type 0
 StepsKeepKnown = (S T : State) (seat : ℕ) → IsSoundState S → Step S seat T → KeepsKnown S.opening S.forwards T.forwards
+
+-- What was so after a part of the journal is so after all of it: readings outlast other seats' steps.
+abbrev pub JournalsKeepKnown : Type 0
+JournalsKeepKnown = (S : State) (seen more : List Death) → IsPacked S.opening → IsSoundState S → IsLegalHistory S → S.journal ≡ seen ++ more
+    → KeepsKnown S.opening (forwards_after S.opening.forwards seen) S.forwards
 
 -- no step makes a done job undone
 abbrev pub StepsKeepDone : Type 0

@@ -1,6 +1,6 @@
 //! The machine that many seats share, and its steps.
 
-ghost use Rattle.ve_machine.specs.SharedLaws.{StatesOpen, StatesStayRight, StepsGoOn, StepsKeepCovered, StepsKeepDone, StepsKeepHistory, StepsKeepKnown, StepsKeepSound};
+ghost use Rattle.ve_machine.specs.SharedLaws.{JournalsKeepKnown, StatesOpen, StatesStayRight, StepsGoOn, StepsKeepCovered, StepsKeepDone, StepsKeepHistory, StepsKeepKnown, StepsKeepSound};
 
 /// At the beginning the machine is sound, nothing is done, and nobody has died.
 pub fn states_open()
@@ -30,6 +30,11 @@ pub fn steps_keep_known()
     ve_theory::residues::has_inverses();
     ve_theory::derivations::levels_are_closed();
 }
+
+/// What was known with a part of the journal stays known with all of it.
+pub fn journals_keep_known()
+    ensures { JournalsKeepKnown }
+{}
 
 /// No step makes a done job undone.
 pub fn steps_keep_done()
