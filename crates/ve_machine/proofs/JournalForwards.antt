@@ -1,18 +1,15 @@
 -- Forwards as the journal tells them: what was known with a part of the journal stays known.
 use Rattle.std.proofs.Common.{◌≡◌, ◌≢◌, ℕ, ◌+◌, ◌<◌, Some, None, List, [], ◌∷◌, ◌++◌, length, get_or, All, AllPairs, refl, sym, ap, subst, ◌∙◌, append-nil, append_assoc, arith}
 use Rattle.std.proofs.Math.ListN.{set}
-use Rattle.std.specs.Prelude.{Option, slice_get}
+use Rattle.std.specs.Prelude.{slice_get}
 use Rattle.std.proofs.lemmas.List.{get_or_append_left, get_or_at, length-append}
-use Rattle.std.proofs.lemmas.List.Elements.{All-from_get_or, All-head, All-tail}
+use Rattle.std.proofs.lemmas.List.Elements.{All-head, All-tail}
 use Rattle.std.proofs.lemmas.Option.{slice_get-get_or, slice_get_within}
-use Rattle.ve_theory.specs.Elements.{Element}
 use Rattle.ve_theory.specs.Answers.{Row}
 use Rattle.ve_table.specs.Tables.{ActionTable, presented}
 use Rattle.ve_machine.specs.Forwards.{Forwards}
 use Rattle.ve_machine.specs.Jobs.{HasForward, IsLiveIn}
-use Rattle.ve_machine.specs.Finished.{IsPacked}
-use Rattle.ve_machine.specs.Seats.{Death, State, forwards_after}
-use Rattle.ve_machine.specs.Covered.{IsLegalHistory, IsSoundState}
+use Rattle.ve_machine.specs.Seats.{Death, forwards_after}
 use Rattle.ve_machine.specs.SharedLaws.{JournalsKeepKnown, KeepsKnown}
 use Rattle.ve_machine.proofs.Forwardings.{positive_prime}
 use Rattle.ve_machine.proofs.SharedLists.{set_else}

@@ -5,6 +5,7 @@ pub mod DerivedComings
 pub mod DrawnForwards
 pub mod ElementHands
 pub mod ElementJobs
+pub mod EnabledEvents
 pub mod FinishedTables
 pub mod Forwardings
 pub mod FoundVectors

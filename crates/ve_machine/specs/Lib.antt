@@ -14,3 +14,4 @@ pub mod RightHands
 pub mod ImageHands
 pub mod Machines
 pub mod MachineCodes
+pub mod Allowed

@@ -1,5 +1,6 @@
 //! The shared machine with the hands of its seats.
 
+ghost use Rattle.ve_machine.specs.Allowed.{EventsAreEnabledWhereAllowed};
 ghost use Rattle.ve_machine.specs.SharedLaws.{MachinesStayRight, MovesGoRight};
 
 /// What a seat does with its hand is a step of the shared machine, or leaves it as it is, and keeps hands right.
@@ -16,4 +17,11 @@ pub fn machines_stay_right()
 {
     ve_theory::residues::has_inverses();
     ve_theory::derivations::levels_are_closed();
+}
+
+/// An event is enabled exactly where the machine allows it.
+pub fn events_are_enabled_where_allowed()
+    ensures { EventsAreEnabledWhereAllowed }
+{
+    ve_theory::residues::has_inverses();
 }
