@@ -1,0 +1,57 @@
+//! Whether the basis words of an answer have their own rows.
+
+ghost use Rattle.std.specs.Prelude.{◌≡◌, ◌<◌, ◌↔◌, IsTrue, MatchOption, Some, length, slice_get};
+ghost use Rattle.ve_theory.specs.Combinations.{unit};
+ghost use Rattle.ve_theory.specs.Presentations.{relators};
+ghost use Rattle.ve_theory.specs.Answers.{HasOwnRow, HaveOwnRowsBelow, RelatorsVanishBelow, SubmoduleVanishesBelow, dimension};
+ghost use Rattle.ve_theory.specs.Verdicts.{BasisWordFailsFirst};
+ghost use Rattle.ve_matrix.specs.Answers.{IsAnswerValue, answer_of};
+ghost use Rattle.ve_check.specs.Failures.{CanCheck};
+ghost use Rattle.ve_check.specs.OriginRows.{HasRow, row_by_origin};
+
+use ve_matrix::Answer;
+use ve_pres::Presentation;
+use ve_table::Origin;
+use ve_theory::elements::{reduced_lists_are_unique, sums_extend};
+use ve_vec::{Sparse, Term};
+
+/// The first basis word whose value isn't its own unit row.
+pub(crate) fn failing_word(presentation: &Presentation, answer: &Answer) -> Option<u32>
+    requires check { CanCheck presentation.now.presentation answer.now }
+    requires relators { RelatorsVanishBelow presentation.now.presentation (answer_of answer.now).action (length (relators presentation.now.presentation)) }
+    requires submodule { SubmoduleVanishesBelow presentation.now.presentation (answer_of answer.now).action (length presentation.now.presentation.submodule) }
+    ensures { MatchOption result
+        (HaveOwnRowsBelow presentation.now.presentation (answer_of answer.now).action (dimension (answer_of answer.now).action))
+        (BasisWordFailsFirst presentation.now.presentation (answer_of answer.now)) }
+{
+    sums_extend();
+    reduced_lists_are_unique();
+    presentation.field().has_prime();
+    for place in 0..answer.basis.len() as u32 {
+        // Earlier words have their own rows, so the parent's row stands for the parent.
+        let row = row_of(answer, answer.basis[place as usize]);
+        if !is_unit(row, place) {
+            return Some(place);
+        }
+    }
+    None
+}
+
+/// The row of a generator, or of a basis vector times a letter.
+fn row_of(answer: &Answer, origin: Origin) -> &Sparse
+    requires answer { IsAnswerValue answer.now }
+    requires origin { HasRow answer.now origin }
+    ensures { result.now ≡ row_by_origin (answer_of answer.now).action origin }
+{
+    match origin {
+        Origin::Root(root) => &answer.images[usize::from(root)],
+        Origin::Child { parent, letter } => answer.matrices[usize::from(letter)].row(parent),
+    }
+}
+
+/// Whether a vector has the coefficient 1 at a place, and no others.
+fn is_unit(vector: &Sparse, place: u32) -> bool
+    ensures { IsTrue result ↔ (vector.now ≡ unit place) }
+{
+    vector.len() == 1 && vector.term(0) == (Term { id: place, coef: 1 })
+}
