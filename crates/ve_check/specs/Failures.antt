@@ -1,8 +1,8 @@
 -- What is known where the relations of a presentation are looked at on an answer.
-use Rattle.std.specs.Prelude.{ℕ, ◌<◌}
-use Rattle.ve_theory.specs.Presentations.{Presentation}
+use Rattle.std.specs.Prelude.{ℕ, ◌<◌, length}
+use Rattle.ve_theory.specs.Presentations.{Presentation, relators}
 use Rattle.ve_theory.specs.Validity.{IsValid}
-use Rattle.ve_theory.specs.Answers.{Action, HasShape, RelatorVanishes, dimension}
+use Rattle.ve_theory.specs.Answers.{Action, HasShape, HaveOwnRowsBelow, RelatorVanishes, RelatorsVanishBelow, SubmoduleVanishesBelow, dimension}
 use Rattle.ve_matrix.specs.declared.answer.Answer.{Answer}
 use Rattle.ve_matrix.specs.Answers.{IsAnswerValue, answer_of}
 
@@ -12,9 +12,22 @@ pub record CanCheck (P : Presentation) (A : Answer) : Type 0 where
   pub answer : IsAnswerValue A
   pub shape : HasShape P (answer_of A)
 
--- the relator vanishes on the basis rows below a place
+-- all relators vanish; all submodule relations do; all basis words have their own rows
+abbrev pub RelatorsVanish : Presentation → Action → Type 0
+RelatorsVanish P A = RelatorsVanishBelow P A (length (relators P))
+
+abbrev pub SubmoduleRelationsVanish : Presentation → Action → Type 0
+SubmoduleRelationsVanish P A = SubmoduleVanishesBelow P A (length P.submodule)
+
+abbrev pub HaveOwnRows : Presentation → Action → Type 0
+HaveOwnRows P A = HaveOwnRowsBelow P A (dimension A)
+
+-- the relator vanishes on the basis rows below a place, and on all of them
 abbrev pub VanishesOnRowsBelow : Presentation → Action → (number place : ℕ) → Type 0
 VanishesOnRowsBelow P A number place = (row : ℕ) → row < place → RelatorVanishes P A number row
+
+abbrev pub VanishesOnRows : Presentation → Action → (number : ℕ) → Type 0
+VanishesOnRows P A number = VanishesOnRowsBelow P A number (dimension A)
 
 -- this row is the first on which the relator doesn't vanish
 pub record IsFirstRow (P : Presentation) (A : Action) (number row : ℕ) : Type 0 where

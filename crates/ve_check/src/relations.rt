@@ -2,10 +2,10 @@
 
 ghost use Rattle.std.specs.Prelude.{◌<◌, ◌↔◌, IfOk, IsTrue, MatchOption, length};
 ghost use Rattle.ve_theory.specs.Presentations.{relators};
-ghost use Rattle.ve_theory.specs.Answers.{RelatorVanishes, RelatorsVanishBelow, SubmoduleVanishes, SubmoduleVanishesBelow, dimension};
+ghost use Rattle.ve_theory.specs.Answers.{RelatorVanishes, SubmoduleVanishes, dimension};
 ghost use Rattle.ve_theory.specs.Verdicts.{RelatorFailsFirst, SubmoduleFailsFirst};
 ghost use Rattle.ve_matrix.specs.Answers.{answer_of};
-ghost use Rattle.ve_check.specs.Failures.{CanCheck, IsFirstRow, VanishesOnRowsBelow};
+ghost use Rattle.ve_check.specs.Failures.{CanCheck, IsFirstRow, RelatorsVanish, SubmoduleRelationsVanish, VanishesOnRows};
 
 use ve_matrix::{Answer, answers_are_traced};
 use ve_pres::Presentation;
@@ -21,7 +21,7 @@ pub(crate) fn failing_relator(
 ) -> Result<Option<(u32, u32)>, Memory>
     requires { CanCheck presentation.now.presentation answer.now }
     ensures { IfOk result (λ failure. MatchOption failure
-        (RelatorsVanishBelow presentation.now.presentation (answer_of answer.now).action (length (relators presentation.now.presentation)))
+        (RelatorsVanish presentation.now.presentation (answer_of answer.now).action)
         (λ f. RelatorFailsFirst presentation.now.presentation (answer_of answer.now) f.0 f.1)) }
 {
     for number in 0..presentation.relator_count() {
@@ -41,7 +41,7 @@ fn failing_row(
     requires check { CanCheck presentation.now.presentation answer.now }
     requires number { number < length (relators presentation.now.presentation) }
     ensures { IfOk result (λ row. MatchOption row
-        (VanishesOnRowsBelow presentation.now.presentation (answer_of answer.now).action number (dimension (answer_of answer.now).action))
+        (VanishesOnRows presentation.now.presentation (answer_of answer.now).action number)
         (IsFirstRow presentation.now.presentation (answer_of answer.now).action number)) }
 {
     for row in 0..answer.basis.len() as u32 {
@@ -80,9 +80,9 @@ pub(crate) fn failing_sub(
     answer: &Answer,
 ) -> Result<Option<u32>, Memory>
     requires check { CanCheck presentation.now.presentation answer.now }
-    requires relators { RelatorsVanishBelow presentation.now.presentation (answer_of answer.now).action (length (relators presentation.now.presentation)) }
+    requires relators { RelatorsVanish presentation.now.presentation (answer_of answer.now).action }
     ensures { IfOk result (λ failure. MatchOption failure
-        (SubmoduleVanishesBelow presentation.now.presentation (answer_of answer.now).action (length presentation.now.presentation.submodule))
+        (SubmoduleRelationsVanish presentation.now.presentation (answer_of answer.now).action)
         (SubmoduleFailsFirst presentation.now.presentation (answer_of answer.now))) }
 {
     for number in 0..presentation.sub_count() {

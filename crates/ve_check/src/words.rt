@@ -1,12 +1,10 @@
 //! Whether the basis words of an answer have their own rows.
 
-ghost use Rattle.std.specs.Prelude.{◌≡◌, ◌<◌, ◌↔◌, IsTrue, MatchOption, Some, length, slice_get};
+ghost use Rattle.std.specs.Prelude.{◌≡◌, ◌↔◌, IsTrue, MatchOption};
 ghost use Rattle.ve_theory.specs.Combinations.{unit};
-ghost use Rattle.ve_theory.specs.Presentations.{relators};
-ghost use Rattle.ve_theory.specs.Answers.{HasOwnRow, HaveOwnRowsBelow, RelatorsVanishBelow, SubmoduleVanishesBelow, dimension};
 ghost use Rattle.ve_theory.specs.Verdicts.{BasisWordFailsFirst};
 ghost use Rattle.ve_matrix.specs.Answers.{IsAnswerValue, answer_of};
-ghost use Rattle.ve_check.specs.Failures.{CanCheck};
+ghost use Rattle.ve_check.specs.Failures.{CanCheck, HaveOwnRows, RelatorsVanish, SubmoduleRelationsVanish};
 ghost use Rattle.ve_check.specs.OriginRows.{HasRow, row_by_origin};
 
 use ve_matrix::Answer;
@@ -18,17 +16,17 @@ use ve_vec::{Sparse, Term};
 /// The first basis word whose value isn't its own unit row.
 pub(crate) fn failing_word(presentation: &Presentation, answer: &Answer) -> Option<u32>
     requires check { CanCheck presentation.now.presentation answer.now }
-    requires relators { RelatorsVanishBelow presentation.now.presentation (answer_of answer.now).action (length (relators presentation.now.presentation)) }
-    requires submodule { SubmoduleVanishesBelow presentation.now.presentation (answer_of answer.now).action (length presentation.now.presentation.submodule) }
+    requires relators { RelatorsVanish presentation.now.presentation (answer_of answer.now).action }
+    requires submodule { SubmoduleRelationsVanish presentation.now.presentation (answer_of answer.now).action }
     ensures { MatchOption result
-        (HaveOwnRowsBelow presentation.now.presentation (answer_of answer.now).action (dimension (answer_of answer.now).action))
+        (HaveOwnRows presentation.now.presentation (answer_of answer.now).action)
         (BasisWordFailsFirst presentation.now.presentation (answer_of answer.now)) }
 {
     sums_extend();
     reduced_lists_are_unique();
     presentation.field().has_prime();
     for place in 0..answer.basis.len() as u32 {
-        // Earlier words have their own rows, so the parent's row stands for the parent.
+        // Earlier words have their own rows, so the value of this one is a row of the answer.
         let row = row_of(answer, answer.basis[place as usize]);
         if !is_unit(row, place) {
             return Some(place);
@@ -49,7 +47,7 @@ fn row_of(answer: &Answer, origin: Origin) -> &Sparse
     }
 }
 
-/// Whether a vector has the coefficient 1 at a place, and no others.
+/// Whether a vector is the unit vector of a place.
 fn is_unit(vector: &Sparse, place: u32) -> bool
     ensures { IsTrue result ↔ (vector.now ≡ unit place) }
 {
