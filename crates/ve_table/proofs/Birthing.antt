@@ -9,12 +9,14 @@ use Rattle.std.proofs.lemmas.List.FromFn.{get_or-range_with_len, length-range_wi
 use Rattle.std.proofs.lemmas.List.Elements.{All-nil, All-append, All-map, All-filter, All-contains, filter_passes, Contains-append_left, Contains-append_right}
 use Rattle.std.proofs.lemmas.List.Kept.{AllPairs-cons, AllPairs-filter}
 use Rattle.ve_theory.specs.Words.{Word, generator, times, word_weight, letter_weight, IsSmaller, Weighted}
+use Rattle.ve_lemmas.proofs.Lists.{Contains-here}
+use Rattle.ve_lemmas.proofs.Weights.{weights_rise}
 use Rattle.ve_table.specs.declared.entry.Entry.{Entry}
 use Rattle.ve_table.specs.declared.birth.Birth.{Birth}
 use Rattle.ve_table.specs.Steps.{HasRisingReaches}
 use Rattle.ve_table.specs.Births.{word_in, product_of, IsWeightedBook, Begins, same, longer, CanCompare, SmallerBirth, Merges, letters_weighing, births_of, all_births, IsBirth, AreBirths}
 use Rattle.ve_table.proofs.Comparing.{smaller_longer, smaller_letter}
-use Rattle.ve_table.proofs.Merging.{contains_later, contains_first, contains_cases, first_before, rest_rises, all_merged, merged_rises, merged_has}
+use Rattle.ve_table.proofs.Merging.{contains_later, contains_cases, first_before, rest_rises, all_merged, merged_rises, merged_has}
 
 -- weights
 
@@ -61,11 +63,6 @@ comparable weights es level a b book first second less = record {
 pub reach_at : (weights : List ℕ) (es : List Entry) (k : ℕ) (d : Entry) → IsWeightedBook weights es → k < length es → (get_or es k d).reach ≡ word_weight weights (word_in es k)
 reach_at weights es k d book lt = book.weighed k (get_or es k d) (slice_get-get_or es k d lt)
 
-not_lighter : (weights : List ℕ) (v w : Word) → Weighted weights v w → word_weight weights v ≤ word_weight weights w
-unfolding Weighted
-not_lighter weights v w (inl less) = omega (arith, less)
-not_lighter weights v w (inr rest) = omega (arith, rest.0)
-
 pub smaller_of_weight : (weights : List ℕ) (v w : Word) → Weighted weights v w → word_weight weights v ≡ word_weight weights w → IsSmaller v w
 unfolding Weighted
 smaller_of_weight weights v w (inl less) equal = absurd (omega (arith, less, equal))
@@ -77,7 +74,7 @@ rising_book weights es book i j d lt within =
       arith,
       reach_at weights es i d book (omega (arith, lt, within)),
       reach_at weights es j d book within,
-      not_lighter weights (word_in es i) (word_in es j) (book.rising i j (generator 0) lt (omega (arith, within, book.book.count))),
+      weights_rise weights (word_in es i) (word_in es j) (book.rising i j (generator 0) lt (omega (arith, within, book.book.count))),
     )
 
 -- letters of a weight
@@ -104,7 +101,7 @@ pub contains_filter : {X : Type 0} (p : X → Bool) (xs : List X) (x : X) → Co
 contains_filter p [] x found passes = absurd (omega (arith, found.1))
 contains_filter p (y ∷ ys) x found passes =
     elim (contains_cases y ys x found) [
-      | inl here ↦ subst (λ l. Contains l x) (sym (cond-true (p y) (y ∷ filter p ys) (filter p ys) (ap p here ∙ passes))) (subst (Contains (y ∷ filter p ys)) here (contains_first y (filter p ys)))
+      | inl here ↦ subst (λ l. Contains l x) (sym (cond-true (p y) (y ∷ filter p ys) (filter p ys) (ap p here ∙ passes))) (subst (Contains (y ∷ filter p ys)) here (Contains-here y (filter p ys)))
       | inr there ↦ kept (p y) (contains_filter p ys x there passes)
     ]
   where

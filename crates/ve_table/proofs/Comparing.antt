@@ -28,10 +28,6 @@ root_word es b i d book lt origin = root_is (book_of es) b i (get_or es b d).ori
 pub child_word : (es : List Entry) (b p x : ℕ) (d : Entry) → IsBook es → b < length es → (get_or es b d).origin ≡ Child p x → (p < b) × (word_in es b ≡ times (word_in es p) x)
 child_word es b p x d book lt origin = child_is (book_of es) b p x (get_or es b d).origin (word_in es b) (book.origins b (get_or es b d) (slice_get-get_or es b d lt)) origin
 
-pub length_generator : (i : ℕ) → word_length (generator i) ≡ 0
-unfolding letters
-length_generator i = refl
-
 pub length_times : (w : Word) (x : ℕ) → word_length (times w x) ≡ word_length w + 1
 unfolding letters
 length_times w x = length_push (letters w) x

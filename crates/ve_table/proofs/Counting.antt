@@ -6,12 +6,13 @@ use Rattle.std.proofs.lemmas.List.{length-map, length-append}
 use Rattle.std.proofs.lemmas.List.FromFn.{fill_by_all, length-range_with_len, get_or-range_with_len}
 use Rattle.std.proofs.lemmas.List.Sums.{sum_by-cons, length-filter}
 use Rattle.std.proofs.lemmas.List.Elements.{All-head, All-tail, Contains-append_left, Contains-append_right}
-use Rattle.ve_theory.specs.Words.{Word, letters, IsSmaller, DiffersBelow}
+use Rattle.ve_theory.specs.Words.{Word}
 use Rattle.ve_theory.specs.Presentations.{Presentation, reach}
 use Rattle.ve_theory.specs.Levels.{steps_to}
+use Rattle.ve_lemmas.proofs.Lists.{Contains-here}
 use Rattle.ve_table.specs.declared.birth.Birth.{Birth}
 use Rattle.ve_table.specs.Births.{births_of}
-use Rattle.ve_table.proofs.Merging.{contains_later, contains_first, contains_cases, first_before, rest_rises}
+use Rattle.ve_table.proofs.Merging.{contains_later, contains_cases, first_before, rest_rises}
 use Rattle.ve_table.proofs.Birthing.{contains_filter, contains_births_of}
 
 -- different elements of a list are no more than the list has
@@ -33,7 +34,7 @@ contains_cut [] k x z is lt differ found = absurd (omega (arith, lt))
 contains_cut (y ∷ ys) zero x z is lt differ found = elim (contains_cases y ys z found) [ inl here ↦ absurd (differ (sym is ∙ here)) | inr there ↦ there ]
 contains_cut (y ∷ ys) (suc k) x z is lt differ found =
     elim (contains_cases y ys z found) [
-      | inl here ↦ subst (Contains (y ∷ cut ys k)) here (contains_first y (cut ys k))
+      | inl here ↦ subst (Contains (y ∷ cut ys k)) here (Contains-here y (cut ys k))
       | inr there ↦ contains_later y (cut ys k) z (contains_cut ys k x z is (omega (arith, lt)) differ there)
     ]
 
@@ -44,18 +45,6 @@ no_more (x ∷ xs) ys distinct all =
     let rest = no_more xs (cut ys found.0) (rest_rises ◌≢◌ x xs distinct)
     (λ j d lt. contains_cut ys found.0 x (get_or xs j d) found.2 found.1 (first_before ◌≢◌ x xs distinct j d lt) (All-tail (Contains ys) x xs all j d lt)) in
     omega (arith, rest, length_cut ys found.0 found.1)
-
--- words that rise are different
-
-differs_not : (u : List ℕ) → DiffersBelow u u → ⊥
-unfolding DiffersBelow
-differs_not [] differs = differs
-differs_not (x ∷ u) (inl less) = omega (arith, less)
-differs_not (x ∷ u) (inr rest) = differs_not u rest.1
-
-pub smaller_not : (w : Word) → IsSmaller w w → ⊥
-smaller_not w (inl less) = omega (arith, less)
-smaller_not w (inr rest) = differs_not (letters w) rest.1
 
 -- all pairs of an id and a letter that reach the level
 

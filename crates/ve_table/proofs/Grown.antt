@@ -10,6 +10,8 @@ use Rattle.ve_theory.specs.Presentations.{Presentation, reach, before, letter_co
 use Rattle.ve_theory.specs.Laws.{LevelsGrow, HasBounds}
 use Rattle.ve_theory.specs.Levels.{steps_to}
 use Rattle.ve_theory.specs.Answers.{Row}
+use Rattle.ve_lemmas.proofs.Words.{length-generator}
+use Rattle.ve_lemmas.proofs.Weights.{reach-times}
 use Rattle.ve_table.specs.declared.origin.Origin.{Origin}
 use Rattle.ve_table.specs.declared.entry.Entry.{Entry}
 use Rattle.ve_table.specs.declared.birth.Birth.{Birth}
@@ -28,10 +30,10 @@ use Rattle.ve_table.proofs.Listed.{Agree, place_below, listed_is}
 use Rattle.ve_table.proofs.Opening.{all_live}
 use Rattle.ve_table.proofs.Spelling.{words_are}
 use Rattle.ve_table.proofs.Dropping.{some_back}
-use Rattle.ve_table.proofs.Comparing.{length_generator, length_times}
+use Rattle.ve_table.proofs.Comparing.{length_times}
 use Rattle.ve_table.proofs.Birthing.{positive_letter, weight_times}
 use Rattle.ve_table.proofs.Growing.{rows_with, HasWideRows, all_wide, length_rows, count_with_births, born_agrees, origin_of, after_births, born_forwards, born_origins, count_born, slice_join, origin_longer, birth_origin}
-use Rattle.ve_table.proofs.NextLevel.{born_word, IsNext, AreNext, with_births, births_differ, word_new, count_new, reach_of_product, not_before_itself, sound_grown, grows}
+use Rattle.ve_table.proofs.NextLevel.{born_word, IsNext, AreNext, with_births, births_differ, word_new, count_new, not_before_itself, sound_grown, grows}
 use Rattle.ve_table.proofs.Counting.{births_counted}
 
 -- the book of a table
@@ -86,7 +88,7 @@ kept_with_room t u kept few entries presentation same live reaches = record {
 -- what defining asks for
 
 short_words : (weights : List ℕ) (w : Word) → All (λ w. 0 < w) weights → word_length w ≤ word_weight weights w
-short_words weights (generator i) positive = omega (arith, length_generator i)
+short_words weights (generator i) positive = omega (arith, length-generator i)
 short_words weights (times w x) positive = omega (arith, short_words weights w positive, length_times w x, weight_times weights w x, positive_letter weights x positive)
 
 pub short_entry : (t : Inside) → IsKept t → (b : ℕ) (d : Entry) → b < length t.entries.items → (get_or t.entries.items b d).length ≤ t.level
@@ -107,7 +109,7 @@ births_within t kept bs live are =
     let counted = births_counted P (t.level + 1) T.words bs (generator 0) (births_differ T bs are)
     (λ k d lt. let next = are.only k d lt in
     let inside : (get_or bs k d).letter < length P.weights = omega (arith, next.letter, kept.sound.valid.presentation.one_weight_each) in
-    (next.parent, inside, omega (arith, next.reaches, reach_of_product P (word_at T (get_or bs k d).parent) (get_or bs k d).letter, get_or_default P.weights (get_or bs k d).letter 0 1 inside))) in
+    (next.parent, inside, omega (arith, next.reaches, reach-times P (word_at T (get_or bs k d).parent) (get_or bs k d).letter, get_or_default P.weights (get_or bs k d).letter 0 1 inside))) in
     let words = all_words_live t kept live in
     let same : next_count T ≡ length T.words + sum_by (steps_to P (t.level + 1)) T.words = ap (λ ws. length ws + sum_by (steps_to P (t.level + 1)) ws) words in
     omega (arith, counted, same, one_entry_each t kept)

@@ -1,18 +1,25 @@
-pub mod Letters
+-- ---- rows
 pub mod Listed
 pub mod LiveRows
-pub mod Entries
-pub mod Killing
 pub mod Setting
-pub mod Stepping
-pub mod Units
-pub mod Opening
 pub mod InPlace
-pub mod LiveIds
+
+-- ---- ids and their words
+pub mod Entries
 pub mod Spelling
+pub mod Comparing
+pub mod Units
+pub mod Stepping
+
+-- ---- dead ids
+pub mod Killing
+pub mod LiveIds
+pub mod AllLive
 pub mod Dropping
 pub mod Renumbering
-pub mod Comparing
+
+-- ---- levels
+pub mod Opening
 pub mod Producing
 pub mod Merging
 pub mod Birthing
@@ -20,6 +27,7 @@ pub mod Growing
 pub mod Counting
 pub mod NextLevel
 pub mod Grown
-pub mod AllLive
+
+-- ---- a table taken apart
 pub mod ByLetter
 pub mod TakingApart

@@ -5,6 +5,7 @@ use Rattle.std.specs.Option.{is_none}
 use Rattle.std.proofs.lemmas.Bool.{cases_lt}
 use Rattle.std.proofs.lemmas.List.{length-map}
 use Rattle.std.proofs.lemmas.List.Sums.{sum_by-cons}
+use Rattle.std.proofs.lemmas.Option.{none-some}
 use Rattle.ve_theory.specs.Answers.{Row}
 use Rattle.ve_table.specs.Tables.{of_live}
 use Rattle.ve_table.specs.declared.entry.Entry.{Entry}
@@ -28,13 +29,10 @@ length-of_live (f ∷ fs) [] le = absurd (omega (arith, le))
 length-of_live (None ∷ fs) (x ∷ xs) le = ap suc (length-of_live fs xs (omega (arith, le))) ∙ sym (alive-none fs)
 length-of_live (Some v ∷ fs) (x ∷ xs) le = length-of_live fs xs (omega (arith, le)) ∙ sym (alive-some v fs)
 
-none_found : {X Y : Type 0} (x : X) → None ≡ Some x → Y
-none_found x bad = absurd (let b : None ≡ Some x = bad in cc)
-
 -- a live id's number finds what the id has
 pub of_live-at : {X : Type 0} (fs : List (Option Row)) (xs : List X) (b : ℕ) (d : X) → length fs ≡ length xs → slice_get fs b ≡ Some None → get_or (of_live fs xs) (alive (take b fs)) d ≡ get_or xs b d
 unfolding of_live
-of_live-at [] xs b d same live = none_found None live
+of_live-at [] xs b d same live = absurd (none-some None live)
 of_live-at (f ∷ fs) [] b d same live = absurd (omega (arith, same))
 of_live-at (f ∷ fs) (x ∷ xs) zero d same live = rw (same_some f None live) refl
 of_live-at (None ∷ fs) (x ∷ xs) (suc b) d same live = ap (λ n. get_or (x ∷ of_live fs xs) n d) (alive-none (take b fs)) ∙ of_live-at fs xs b d (omega (arith, same)) live
@@ -49,13 +47,13 @@ live_id (Some v ∷ fs) n lt = let found = live_id fs n (omega (arith, lt, alive
 
 -- numbers of live ids are numbers, and keep the order
 pub number_within : (fs : List (Option Row)) (b : ℕ) → slice_get fs b ≡ Some None → alive (take b fs) < alive fs
-number_within [] b live = none_found None live
+number_within [] b live = absurd (none-some None live)
 number_within (f ∷ fs) zero live = rw (same_some f None live) (omega (arith, alive-none fs))
 number_within (None ∷ fs) (suc b) live = let rest = number_within fs b live in omega (arith, rest, alive-none fs, alive-none (take b fs))
 number_within (Some v ∷ fs) (suc b) live = let rest = number_within fs b live in omega (arith, rest, alive-some v fs, alive-some v (take b fs))
 
 pub number_rises : (fs : List (Option Row)) (a b : ℕ) → a < b → slice_get fs a ≡ Some None → alive (take a fs) < alive (take b fs)
-number_rises [] a b lt live = none_found None live
+number_rises [] a b lt live = absurd (none-some None live)
 number_rises (f ∷ fs) a zero lt live = absurd (omega (arith, lt))
 number_rises (f ∷ fs) zero (suc b) lt live = rw (same_some f None live) (omega (arith, alive-none (take b fs)))
 number_rises (None ∷ fs) (suc a) (suc b) lt live = let rest = number_rises fs a b (omega (arith, lt)) live in omega (arith, rest, alive-none (take a fs), alive-none (take b fs))

@@ -1,10 +1,12 @@
 -- What a merge of two rising lists has.
-use Rattle.std.proofs.Common.{◌≡◌, ℕ, zero, suc, ◌<◌, ◌⊎◌, inl, inr, List, [], ◌∷◌, ◌++◌, length, get_or, refl, sym, ap, subst, ◌∙◌, arith}
+use Rattle.std.proofs.Common.{◌≡◌, ℕ, zero, suc, ◌<◌, ◌⊎◌, inl, inr, List, [], ◌∷◌, ◌++◌, length, get_or, sym, ap, subst, ◌∙◌, arith}
 use Rattle.std.specs.Prelude.{All, AllPairs, Contains}
 use Rattle.std.proofs.lemmas.List.{append_assoc}
 use Rattle.std.proofs.lemmas.List.Elements.{All-cons, All-head, All-tail}
 use Rattle.std.proofs.lemmas.List.Kept.{AllPairs-cons}
-use Rattle.ve_theory.specs.Words.{Word, letters, DiffersBelow, IsSmaller}
+use Rattle.ve_theory.specs.Words.{Word, letters, IsSmaller}
+use Rattle.ve_lemmas.proofs.Orders.{differs_transitive}
+use Rattle.ve_lemmas.proofs.Lists.{Contains-here}
 use Rattle.ve_table.specs.declared.entry.Entry.{Entry}
 use Rattle.ve_table.specs.declared.birth.Birth.{Birth}
 use Rattle.ve_table.specs.Births.{product_of, SmallerBirth, Merges, no_left, no_right, from_left, from_right}
@@ -13,9 +15,6 @@ use Rattle.ve_table.specs.Births.{product_of, SmallerBirth, Merges, no_left, no_
 
 pub contains_later : {X : Type 0} (y : X) (xs : List X) (x : X) → Contains xs x → Contains (y ∷ xs) x
 contains_later y xs x found = (suc found.0, omega (arith, found.1), found.2)
-
-pub contains_first : {X : Type 0} (x : X) (xs : List X) → Contains (x ∷ xs) x
-contains_first x xs = (0, omega arith, refl)
 
 pub contains_cases : {X : Type 0} (y : X) (xs : List X) (x : X) → Contains (y ∷ xs) x → (y ≡ x) ⊎ Contains xs x
 contains_cases y xs x found = by found.0 found.1 found.2
@@ -32,21 +31,11 @@ rest_rises R x xs pairs i j d lt within = pairs (suc i) (suc j) d (omega (arith,
 
 -- the order
 
-differs_through : (u v w : List ℕ) → DiffersBelow u v → DiffersBelow v w → DiffersBelow u w
-unfolding DiffersBelow
-differs_through [] v w first second = absurd first
-differs_through (x ∷ u) [] w first second = absurd first
-differs_through (x ∷ u) (y ∷ v) [] first second = absurd second
-differs_through (x ∷ u) (y ∷ v) (z ∷ w) (inl less) (inl more) = inl (omega (arith, less, more))
-differs_through (x ∷ u) (y ∷ v) (z ∷ w) (inl less) (inr rest) = inl (omega (arith, less, rest.0))
-differs_through (x ∷ u) (y ∷ v) (z ∷ w) (inr rest) (inl more) = inl (omega (arith, rest.0, more))
-differs_through (x ∷ u) (y ∷ v) (z ∷ w) (inr first) (inr second) = inr (first.0 ∙ second.0, differs_through u v w first.1 second.1)
-
 pub smaller_through : (u v w : Word) → IsSmaller u v → IsSmaller v w → IsSmaller u w
 smaller_through u v w (inl less) (inl more) = inl (omega (arith, less, more))
 smaller_through u v w (inl less) (inr rest) = inl (omega (arith, less, rest.0))
 smaller_through u v w (inr rest) (inl more) = inl (omega (arith, rest.0, more))
-smaller_through u v w (inr first) (inr second) = inr (first.0 ∙ second.0, differs_through (letters u) (letters v) (letters w) first.1 second.1)
+smaller_through u v w (inr first) (inr second) = inr (first.0 ∙ second.0, differs_transitive (letters u) (letters v) (letters w) first.1 second.1)
 
 below_all : (es : List Entry) (a b : Birth) (xs : List Birth) → SmallerBirth es a b → AllPairs (SmallerBirth es) (b ∷ xs) → All (SmallerBirth es a) (b ∷ xs)
 below_all es a b xs less rising =
@@ -82,14 +71,14 @@ merged_has es _ _ _ x (no_right left) (inl found) = found
 merged_has es _ _ _ x (no_right left) (inr found) = absurd (omega (arith, found.1))
 merged_has es _ _ _ x (from_left a b left right merged less rest) (inl found) =
     elim (contains_cases a left x found) [
-      | inl here ↦ subst (Contains (a ∷ merged)) here (contains_first a merged)
+      | inl here ↦ subst (Contains (a ∷ merged)) here (Contains-here a merged)
       | inr there ↦ contains_later a merged x (merged_has es left (b ∷ right) merged x rest (inl there))
     ]
 merged_has es _ _ _ x (from_left a b left right merged less rest) (inr found) = contains_later a merged x (merged_has es left (b ∷ right) merged x rest (inr found))
 merged_has es _ _ _ x (from_right a b left right merged less rest) (inl found) = contains_later b merged x (merged_has es (a ∷ left) right merged x rest (inl found))
 merged_has es _ _ _ x (from_right a b left right merged less rest) (inr found) =
     elim (contains_cases b right x found) [
-      | inl here ↦ subst (Contains (b ∷ merged)) here (contains_first b merged)
+      | inl here ↦ subst (Contains (b ∷ merged)) here (Contains-here b merged)
       | inr there ↦ contains_later b merged x (merged_has es (a ∷ left) right merged x rest (inr there))
     ]
 
@@ -114,4 +103,4 @@ pub contains_rest : (a x : Birth) (left after : List Birth) → left ≡ a ∷ a
 contains_rest a x left after left_is found = subst (λ l. Contains l x) (sym left_is) (contains_later a after x found)
 
 pub contains_head : (a : Birth) (left after : List Birth) → left ≡ a ∷ after → Contains left a
-contains_head a left after left_is = subst (λ l. Contains l a) (sym left_is) (contains_first a after)
+contains_head a left after left_is = subst (λ l. Contains l a) (sym left_is) (Contains-here a after)

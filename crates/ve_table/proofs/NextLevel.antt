@@ -4,22 +4,26 @@ use Rattle.std.specs.Prelude.{Option, All, AllPairs, Contains, IsSome, slice_get
 use Rattle.std.proofs.lemmas.Bool.{cases_eq, cases_lt}
 use Rattle.std.proofs.lemmas.Option.{slice_get_within, slice_get-get_or, get_or_from_slice_get}
 use Rattle.std.proofs.lemmas.List.{length-map, length-append, get_or_append_left, get_or-append_right, get_or_default, get_or-map}
-use Rattle.std.proofs.lemmas.List.Elements.{All-append, All-map, All-push, All-weaker, All-contains, Contains-append_cases, Contains-append_left}
+use Rattle.std.proofs.lemmas.List.Elements.{All-append, All-map, All-weaker, All-contains, Contains-append_cases, Contains-append_left}
 use Rattle.ve_theory.specs.Combinations.{unit, scaled, extended, difference}
-use Rattle.ve_theory.specs.Words.{Word, generator, times, start, letters, word_weight, Weighted, IsSmaller}
+use Rattle.ve_theory.specs.Words.{Word, generator, times, word_weight, Weighted, IsSmaller}
 use Rattle.ve_theory.specs.Presentations.{Presentation, reach, step, before, letter_count, IsWord}
 use Rattle.ve_theory.specs.Derivations.{DerivedWithin}
 use Rattle.ve_theory.specs.Laws.{LevelsGrow, HasBounds}
 use Rattle.ve_theory.specs.Answers.{Row, IsNotAfter}
+use Rattle.ve_lemmas.proofs.Residues.{prime-large}
+use Rattle.ve_lemmas.proofs.Orders.{smaller_irreflexive}
+use Rattle.ve_lemmas.proofs.Weights.{reach-times}
+use Rattle.ve_lemmas.proofs.Words.{IsWord-times}
+use Rattle.ve_lemmas.proofs.Lists.{Contains-map}
 use Rattle.ve_table.specs.declared.birth.Birth.{Birth}
 use Rattle.ve_table.specs.Tables.{ActionTable, presented, word_at, row_at, element_of, IsLive, IsDue}
 use Rattle.ve_table.specs.Sound.{IsSound, IsVectorOf, IsRowOf}
 use Rattle.ve_table.specs.Changes.{IsBorn, Grows}
 use Rattle.ve_table.proofs.Entries.{same_some}
-use Rattle.ve_table.proofs.Units.{above_one, unit_vector}
+use Rattle.ve_table.proofs.Units.{unit_vector}
 use Rattle.ve_table.proofs.Birthing.{pairs_append, last_letter}
 use Rattle.ve_table.proofs.Growing.{rows_with, HasWideRows, all_wide, row_stays, row_is_born, length_rows}
-use Rattle.ve_table.proofs.Counting.{smaller_not}
 
 abbrev pub born_word : ActionTable → Birth → Word
 born_word T b = times (word_at T b.parent) b.letter
@@ -45,11 +49,7 @@ with_births T bs = record T {
 }
 
 pub births_differ : (T : ActionTable) (bs : List Birth) → AreNext T bs → AllPairs ◌≢◌ bs
-births_differ T bs are i j d lt within same = smaller_not (born_word T (get_or bs j d)) (subst (λ (a : Birth). IsSmaller (born_word T a) (born_word T (get_or bs j d))) same (are.rising i j d lt within))
-
-pub reach_of_product : (P : Presentation) (w : Word) (x : ℕ) → reach P (times w x) ≡ reach P w + step P x
-unfolding word_weight
-reach_of_product P w x = refl
+births_differ T bs are i j d lt within same = smaller_irreflexive (born_word T (get_or bs j d)) (subst (λ (a : Birth). IsSmaller (born_word T a) (born_word T (get_or bs j d))) same (are.rising i j d lt within))
 
 word_old : (T : ActionTable) (bs : List Birth) (b : ℕ) (d : Word) → b < length T.words → get_or (T.words ++ map (born_word T) bs) b d ≡ get_or T.words b d
 word_old T bs b d lt = get_or_append_left T.words (map (born_word T) bs) d b lt
@@ -90,7 +90,7 @@ row_born T bs b x wide are found =
 not_next : (T : ActionTable) (bs : List Birth) (b x : ℕ) → AreNext T bs → IsDue T b x → Contains bs (record { parent = b; letter = x }) → ⊥
 not_next T bs b x are due found =
     let next = All-contains (IsNext T) bs (record { parent = b; letter = x }) are.only found in
-    omega (arith, next.reaches, reach_of_product (presented T) (word_at T b) x, due.2)
+    omega (arith, next.reaches, reach-times (presented T) (word_at T b) x, due.2)
 
 born_cases : (T : ActionTable) (bs : List Birth) (b x : ℕ) → AreNext T bs → (Contains bs (record { parent = b; letter = x })) ⊎ (Contains bs (record { parent = b; letter = x }) → ⊥)
 born_cases T bs b x are = by (cases_lt b (length T.words)) (cases_lt x (letter_count (presented T))) (cases_eq (reach (presented T) (times (word_at T b) x)) (T.level + 1))
@@ -141,13 +141,6 @@ born_rises T bs are i j d lt within =
     (subst (λ w. before (presented T) (born_word T (get_or bs i c)) w) (sym (get_or-map (born_word T) bs j c d within'))
     (weighted_from_order (presented T).weights (born_word T (get_or bs i c)) (born_word T (get_or bs j c)) ((are.only i c before').reaches ∙ sym (are.only j c within').reaches) (are.rising i j c lt within')))
 
-word_times : (P : Presentation) (w : Word) (x : ℕ) → IsWord P w → x < letter_count P → IsWord P (times w x)
-unfolding start letters
-word_times P w x is lt = (is.0, All-push (λ x. x < letter_count P) (letters w) x is.1 lt)
-
-contains_map : {X Y : Type 0} (f : X → Y) (xs : List X) (x : X) → Contains xs x → Contains (map f xs) (f x)
-contains_map f xs x found = (found.0, omega (arith, found.1, length-map xs f), get_or-map f xs found.0 x (f x) found.1 ∙ ap f found.2)
-
 times_parts : (v w : Word) (x y : ℕ) → times v x ≡ times w y → v ≡ w
 times_parts v w x y equal = cc
 
@@ -163,7 +156,7 @@ words_differ T a b sound first second equal irreflexive = by (cases_lt a b) (cas
 pub not_before_itself : (weights : List ℕ) (w : Word) → Weighted weights w w → ⊥
 unfolding Weighted
 not_before_itself weights w (inl less) = omega (arith, less)
-not_before_itself weights w (inr rest) = smaller_not w rest.1
+not_before_itself weights w (inr rest) = smaller_irreflexive w rest.1
 
 -- soundness
 
@@ -174,7 +167,7 @@ sound_grown T bs sound grow bounds wide live are = record {
       (All-weaker (λ w. IsWord P w × (reach P w ≤ T.level)) (λ w. IsWord P w × (reach P w ≤ T.level + 1)) (λ w is. (is.0, omega (arith, is.1))) T.words sound.words)
       (All-map (λ w. IsWord P w × (reach P w ≤ T.level + 1)) (born_word T) bs
       (λ k d lt. let next = are.only k d lt in
-      (word_times P (word_at T (get_or bs k d).parent) (get_or bs k d).letter (sound.words (get_or bs k d).parent (generator 0) next.parent).0 next.letter, omega (arith, next.reaches))));
+      (IsWord-times P (word_at T (get_or bs k d).parent) (get_or bs k d).letter (sound.words (get_or bs k d).parent (generator 0) next.parent).0 next.letter, omega (arith, next.reaches))));
   rising = pairs_append (before P) T.words (map (born_word T) bs) sound.rising (born_rises T bs are)
       (λ i d lt. All-map (before P (get_or T.words i d)) (born_word T) bs
       (λ k c inside. weighted_from_reach P.weights (get_or T.words i d) (born_word T (get_or bs k c)) (omega (arith, (sound.words i d lt).1, (are.only k c inside).reaches))));
@@ -225,7 +218,7 @@ sound_grown T bs sound grow bounds wide live are = record {
           λ _. (
             omega (arith, next.parent, count_new T bs),
             next.letter,
-            subst (λ w. reach P w + step P x ≤ T.level + 1) (sym (word_here b next.parent)) (omega (arith, next.reaches, reach_of_product P (word_at T b) x)),
+            subst (λ w. reach P w + step P x ≤ T.level + 1) (sym (word_here b next.parent)) (omega (arith, next.reaches, reach-times P (word_at T b) x)),
           ),
           λ _. subst IsSome (sym (row_born T bs b x wide are born)) refl,
         )
@@ -242,7 +235,7 @@ sound_grown T bs sound grow bounds wide live are = record {
           where
             not_reaching : (reach P (times (word_at T b) x) ≡ T.level + 1) ⊎ (reach P (times (word_at T b) x) ≡ T.level + 1 → ⊥) → reach P (word_at T b) + step P x ≤ T.level + 1 → reach P (word_at T b) + step P x ≤ T.level
             not_reaching (inl reaches) le = absurd (not_born (are.every (record { parent = b; letter = x }) (record { parent = lt; letter = due.1; reaches = reaches })))
-            not_reaching (inr other) le = let differ : reach P (word_at T b) + step P x ≢ T.level + 1 = λ same. other (reach_of_product P (word_at T b) x ∙ same) in omega (arith, le, differ)
+            not_reaching (inr other) le = let differ : reach P (word_at T b) + step P x ≢ T.level + 1 = λ same. other (reach-times P (word_at T b) x ∙ same) in omega (arith, le, differ)
         old_due due (inr new) =
             let c : Birth = element bs new.0 new.1 in
             let word : word_at (with_births T bs) b ≡ born_word T (get_or bs new.0 c) = ap (λ n. word_at (with_births T bs) n) new.2 ∙ word_new T bs new.0 (generator 0) c new.1 in
@@ -256,7 +249,7 @@ sound_grown T bs sound grow bounds wide live are = record {
         let word : word_at (with_births T bs) (length T.words + born.0) ≡ times (word_at (with_births T bs) b) x =
         word_new T bs born.0 (generator 0) (record { parent = b; letter = x }) born.1 ∙ ap (born_word T) born.2 ∙ ap (λ w. times w x) (sym (word_here b next.parent)) in
         subst (λ u. IsRowOf (with_births T bs) b x u) v_is
-        (unit_vector (with_births T bs) (length T.words + born.0) (times (word_at (with_births T bs) b) x) (above_one P.prime sound.valid.presentation.field) (omega (arith, born.1, count_new T bs)) word)
+        (unit_vector (with_births T bs) (length T.words + born.0) (times (word_at (with_births T bs) b) x) (prime-large P.prime sound.valid.presentation.field) (omega (arith, born.1, count_new T bs)) word)
     row b x v found (inr not_born) =
         let old : row_at T b x ≡ Some v = sym (row_kept T bs b x not_born) ∙ found in
         let lt : b < length T.words = ((sound.due b x).0 (subst IsSome (sym old) refl)).0 in
@@ -273,7 +266,7 @@ grows T bs sound wide live are = record {
     every = λ w is.
         let b : Birth = record { parent = is.parent; letter = is.letter } in
         let lt : is.parent < length T.words = omega (arith, sound.one_forward_each, slice_get_within T.forwards is.parent None is.live) in
-        subst (Contains (map (born_word T) bs)) (sym is.product) (contains_map (born_word T) bs b (are.every b (record { parent = lt; letter = is.is_letter; reaches = ap (reach (presented T)) (sym is.product) ∙ is.next })));
+        subst (Contains (map (born_word T) bs)) (sym is.product) (Contains-map (born_word T) bs b (are.every b (record { parent = lt; letter = is.is_letter; reaches = ap (reach (presented T)) (sym is.product) ∙ is.next })));
   };
   draft = refl;
   level = refl;

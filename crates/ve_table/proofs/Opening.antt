@@ -12,6 +12,9 @@ use Rattle.ve_theory.specs.Presentations.{Presentation, reach, step, IsWord}
 use Rattle.ve_theory.specs.Validity.{IsValid}
 use Rattle.ve_theory.specs.Laws.{HasBounds}
 use Rattle.ve_theory.specs.Answers.{Row}
+use Rattle.ve_lemmas.proofs.Residues.{prime-large}
+use Rattle.ve_lemmas.proofs.Weights.{reach-generator}
+use Rattle.ve_lemmas.proofs.Words.{length-generator}
 use Rattle.ve_pres.specs.Drafts.{Draft}
 use Rattle.ve_table.specs.declared.origin.Origin.TheVariants.{Root}
 use Rattle.ve_table.specs.declared.entry.Entry.{Entry}
@@ -27,7 +30,7 @@ use Rattle.ve_table.specs.Roots.{IsRootEntry, AreRoots}
 use Rattle.ve_table.proofs.Entries.{tabled}
 use Rattle.ve_table.proofs.Listed.{row_in, listed_is}
 use Rattle.ve_table.proofs.Setting.{none_is_some}
-use Rattle.ve_table.proofs.Units.{above_one, unit_vector}
+use Rattle.ve_table.proofs.Units.{unit_vector}
 
 -- one root more
 pub root_more : (n : ℕ) (items : List Entry) (e : Entry) → AreRoots n items → e.origin ≡ Root n → IsRootEntry e → AreRoots (n + 1) (items ++ e ∷ [])
@@ -101,14 +104,6 @@ generator_before : (weights : List ℕ) (i j : ℕ) → i < j → Weighted weigh
 unfolding Weighted word_weight start
 generator_before weights i j lt = inr (refl, inl lt)
 
-generator_reach : (P : Presentation) (i : ℕ) → reach P (generator i) ≡ 0
-unfolding word_weight
-generator_reach P i = refl
-
-generator_length : (i : ℕ) → word_length (generator i) ≡ 0
-unfolding letters
-generator_length i = refl
-
 generator_word : (P : Presentation) (i : ℕ) → i < P.generators → IsWord P (generator i)
 unfolding start letters
 generator_word P i lt = (lt, λ k d le. absurd (omega arith))
@@ -116,7 +111,7 @@ generator_word P i lt = (lt, λ k d le. absurd (omega arith))
 pub sound_opened : (draft : Draft) → IsValid draft.presentation → HasBounds draft.presentation → IsSound (opened draft)
 sound_opened draft valid bounds = record {
   valid = valid;
-  words = λ k d lt. let in' : k < P.generators = omega (arith, lt, count) in rw (at k d in') (generator_word P k in', omega (arith, generator_reach P k));
+  words = λ k d lt. let in' : k < P.generators = omega (arith, lt, count) in rw (at k d in') (generator_word P k in', omega (arith, reach-generator P k));
   rising = λ i j d lt within.
       let in' : j < P.generators = omega (arith, within, count) in
       let before' : i < P.generators = omega (arith, in', lt) in
@@ -132,7 +127,7 @@ sound_opened draft valid bounds = record {
   images = λ i v found.
       let in' : i < P.generators = omega (arith, slice_get_within (map unit ids) i v found, length-map-range_with_len unit 0 P.generators) in
       let v_is : unit i ≡ v = sym (get_or-map-range_with_len unit 0 P.generators i i [] in' (omega arith)) ∙ get_or_from_slice_get (map unit ids) i v [] found in
-      subst (λ v. IsImageOf (opened draft) i v) v_is (unit_vector (opened draft) i (generator i) (above_one P.prime valid.presentation.field) (omega (arith, in', count)) (at i (generator 0) in'));
+      subst (λ v. IsImageOf (opened draft) i v) v_is (unit_vector (opened draft) i (generator i) (prime-large P.prime valid.presentation.field) (omega (arith, in', count)) (at i (generator 0) in'));
 }
   where
     P : Presentation
@@ -183,8 +178,8 @@ root_entry draft items are b e found =
     let is : IsRootEntry e = subst IsRootEntry here (are.each b e inside) in
     record {
       origin = rw (origin, word) refl;
-      own_reach = is.own_reach ∙ sym (generator_reach draft.presentation b) ∙ ap (reach draft.presentation) (sym word);
-      own_length = is.own_length ∙ sym (generator_length b) ∙ ap word_length (sym word);
+      own_reach = is.own_reach ∙ sym (reach-generator draft.presentation b) ∙ ap (reach draft.presentation) (sym word);
+      own_length = is.own_length ∙ sym (length-generator b) ∙ ap word_length (sym word);
     }
 
 pub opened_from : (t : Inside) → t.level ≡ 0 → t.rows.items ≡ [] → AreRoots t.presentation.presentation.generators t.entries.items → t.images.items ≡ map unit (range_with_len 0 t.presentation.presentation.generators)

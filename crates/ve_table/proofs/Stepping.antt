@@ -8,9 +8,10 @@ use Rattle.std.proofs.lemmas.List.{length-take, get_or-take}
 use Rattle.std.proofs.lemmas.Option.{slice_get-get_or}
 use Rattle.std.proofs.lemmas.List.Sums.{sum_by-cons, sum_by-take-drop, sum_by-le}
 use Rattle.ve_theory.specs.Answers.{Row}
-use Rattle.ve_theory.specs.Words.{Word, generator, Weighted, word_weight}
+use Rattle.ve_theory.specs.Words.{Word, generator}
 use Rattle.ve_theory.specs.Presentations.{Presentation, reach}
 use Rattle.ve_theory.specs.Levels.{steps_to}
+use Rattle.ve_lemmas.proofs.Weights.{weights_rise}
 use Rattle.ve_table.specs.Tables.{ActionTable, presented, reach_at, word_at, of_live, live_words}
 use Rattle.ve_table.specs.Kept.{table_of, IsKept}
 use Rattle.ve_table.specs.declared.table.Table.TheInside.{Inside}
@@ -117,18 +118,13 @@ zipped R (x ∷ xs) (y ∷ ys) d same each = (each 0 x refl, zipped R xs ys d (o
 
 -- reaches rise with the order of words
 
-ordered : (weights : List ℕ) (v w : Word) → Weighted weights v w → word_weight weights v ≤ word_weight weights w
-unfolding Weighted
-ordered weights v w (inl less) = omega (arith, less)
-ordered weights v w (inr same) = omega (arith, same.0)
-
 pub rising_reaches : (t : Inside) → IsKept t → HasRisingReaches t.entries.items
 rising_reaches t kept i j d lt within =
     let T : ActionTable = table_of t in
     let es : List Entry = t.entries.items in
     let first = kept.entries i (get_or es i d) (slice_get-get_or es i d (omega arith)) in
     let second = kept.entries j (get_or es j d) (slice_get-get_or es j d within) in
-    let order = ordered (presented T).weights (word_at T i) (word_at T j) (kept.sound.rising i j (generator 0) lt (omega (arith, within, one_entry_each t kept))) in
+    let order = weights_rise (presented T).weights (word_at T i) (word_at T j) (kept.sound.rising i j (generator 0) lt (omega (arith, within, one_entry_each t kept))) in
     omega (arith, order, first.own_reach, second.own_reach)
 
 -- the steps of all entries are those of the live words

@@ -1,11 +1,9 @@
 -- The unit of an id stands for its word.
-use Rattle.std.proofs.Common.{◌≡◌, ℕ, ◌+◌, ◌*◌, ◌-◌, ◌%◌, ◌<◌, inr, Bool, true, false, cond, ltb, List, [], ◌++◌, length, refl, sym, ap, subst, ◌∙◌, arith}
+use Rattle.std.proofs.Common.{◌≡◌, ℕ, ◌+◌, ◌*◌, ◌-◌, ◌%◌, ◌<◌, inr, Bool, true, false, cond, List, [], ◌++◌, length, refl, sym, ap, subst, ◌∙◌, arith}
 use Rattle.std.specs.Prelude.{All}
 use Rattle.std.proofs.Math.Nat.{mod_self, zero-mod}
-use Rattle.std.proofs.lemmas.Bool.{ltb-true}
-use Rattle.std.proofs.lemmas.List.Sums.{AllPass-from_list_all}
-use Rattle.std.proofs.lemmas.List.Elements.{All-cons, All-nil, All-contains}
-use Rattle.ve_theory.specs.Residues.{primes, Congruent, IsFieldPrime}
+use Rattle.std.proofs.lemmas.List.Elements.{All-cons, All-nil}
+use Rattle.ve_theory.specs.Residues.{Congruent}
 use Rattle.ve_theory.specs.Combinations.{unit, scaled, difference, extended, coefficient, Alike, AllBefore, IsReduced}
 use Rattle.ve_theory.specs.Words.{Word, same_word}
 use Rattle.ve_theory.specs.Presentations.{Presentation}
@@ -13,11 +11,6 @@ use Rattle.ve_theory.specs.Derivations.{nothing, value, IsDerivation, StaysWithi
 use Rattle.ve_theory.specs.Answers.{IsNotAfter}
 use Rattle.ve_table.specs.Tables.{ActionTable, presented, word_at}
 use Rattle.ve_table.specs.Sound.{StandsFor, IsVectorOf}
-
--- a prime is not 1
-pub above_one : (p : ℕ) → IsFieldPrime p → 1 < p
-unfolding primes
-above_one p is_prime = ltb-true 1 p (All-contains (λ x. ltb 1 x ≡ true) primes p (AllPass-from_list_all (ltb 1) primes refl) is_prime)
 
 unit_reduced : (p c : ℕ) → 1 < p → IsReduced ◌<◌ p (unit c)
 unfolding IsReduced AllBefore

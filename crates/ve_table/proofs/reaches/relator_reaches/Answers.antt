@@ -3,7 +3,7 @@ use Rattle.ve_theory.specs.Presentations.{Presentation, letter_count}
 use Rattle.ve_theory.specs.Elements.{AlgebraElement}
 use Rattle.ve_theory.specs.Presentations.{HasLetters, relators}
 use Rattle.std.proofs.lemmas.List.Elements.{All-get_or}
-use Rattle.ve_table.proofs.Letters.{relators_letters}
+use Rattle.ve_lemmas.proofs.Relators.{relators_letters}
 use Rattle.ve_table.proofs.reaches.relator_reaches.Goals as goal
 
 pub weight-reach-requires-clause-letters : goal.weight-reach-requires-clause-letters
