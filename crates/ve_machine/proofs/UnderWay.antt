@@ -1,7 +1,7 @@
 -- Tables at work: openings, deaths and rewritten rows.
-use Rattle.std.proofs.Common.{◌≡◌, ℕ, ◌<◌, inl, inr, nat_eq, Some, None, List, map, All, refl, sym, ap, subst, ◌∙◌}
+use Rattle.std.proofs.Common.{◌≡◌, ℕ, ◌<◌, inl, inr, nat_eq, Some, None, map, All, refl, sym, ap, subst, ◌∙◌}
 use Rattle.std.specs.Prelude.{Option, IsSome}
-use Rattle.std.proofs.lemmas.List.Elements.{All-append, All-map}
+use Rattle.std.proofs.lemmas.List.Elements.{All-append}
 use Rattle.ve_theory.specs.Combinations.{difference, extended}
 use Rattle.ve_theory.specs.Answers.{Row}
 use Rattle.ve_theory.proofs.Sums.{SameWeights-refl, SameWeights-sym, SameWeights_of, SameWeights-difference, weights_from_Alike, Decides-nat_eq}
@@ -10,19 +10,17 @@ use Rattle.ve_table.specs.Sound.{IsSound}
 use Rattle.ve_table.specs.Changes.{with_forward, with_row}
 use Rattle.ve_table.proofs.Entries.{same_some}
 use Rattle.ve_table.proofs.Setting.{row_written}
+use Rattle.ve_table.proofs.Opening.{nones}
 use Rattle.ve_machine.specs.Forwards.{stand_in, IsForwarding, IsRewritten}
 use Rattle.ve_machine.specs.Jobs.{IsUnderWay}
 use Rattle.ve_machine.specs.Finished.{IsOpening, IsPacked}
 use Rattle.ve_machine.proofs.Forwardings.{positive_prime, IsForwarding-alike, nothing_forwarded, forwarded_on, vector_less_stand_ins, stays_forwarding}
 
-all_none : {X : Type 0} (xs : List X) → All (λ (o : Option Row). o ≡ None) (map (λ _. None) xs)
-all_none xs = All-map (λ (o : Option Row). o ≡ None) (λ _. None) xs (λ k d inside. refl)
-
 pub opening_packed : (O : ActionTable) → IsOpening O → IsPacked O
-opening_packed O (inl opened) = subst (All (λ (o : Option Row). o ≡ None)) (sym (ap (λ T. T.forwards) opened)) (all_none _)
+opening_packed O (inl opened) = subst (All (λ (o : Option Row). o ≡ None)) (sym (ap (λ T. T.forwards) opened)) (nones _)
 opening_packed O (inr (old, finished, packed, grows)) =
     subst (All (λ (o : Option Row). o ≡ None)) (sym grows.forwards)
-    (All-append (λ (o : Option Row). o ≡ None) old.forwards (map (λ _. None) grows.born) packed (all_none grows.born))
+    (All-append (λ (o : Option Row). o ≡ None) old.forwards (map (λ _. None) grows.born) packed (nones grows.born))
 
 pub opening_under_way : (O : ActionTable) → IsSound O → IsUnderWay O O
 opening_under_way O sound = record {
