@@ -1,29 +1,17 @@
 -- What is derived within a level, in sums and times letters.
-use Rattle.std.proofs.Common.{ℕ, ◌+◌, ◌<◌, ◌≤◌, List, [], ◌∷◌, ◌++◌, All, arith}
+use Rattle.std.proofs.Common.{ℕ, ◌+◌, ◌<◌, ◌≤◌, List, [], ◌∷◌, All, arith}
 use Rattle.std.proofs.lemmas.List.Elements.{All-head, All-tail, All-weaker}
-use Rattle.ve_theory.specs.Combinations.{Combination, unit, scaled, extended}
+use Rattle.ve_theory.specs.Combinations.{unit}
 use Rattle.ve_theory.specs.Words.{Word, times, letters_weight}
 use Rattle.ve_theory.specs.Elements.{Element, element_times, times_letter}
 use Rattle.ve_theory.specs.Presentations.{Presentation, HasLetters, letter_count, reach}
 use Rattle.ve_theory.specs.Derivations.{DerivedWithin}
 use Rattle.ve_theory.specs.Laws.{ReachAddsUp}
-use Rattle.ve_theory.proofs.Sums.{SameWeights-refl, SameWeights-sym, SameWeights-append, scaled-one}
+use Rattle.ve_theory.proofs.Sums.{SameWeights-sym}
 use Rattle.ve_theory.proofs.Members.{All-times_letter}
 use Rattle.ve_theory.proofs.DerivationTrees.{Within-words}
-use Rattle.ve_theory.proofs.DerivedElements.{DerivedWithin-alike, DerivedWithin-nothing, DerivedWithin-combined, DerivedWithin-times}
+use Rattle.ve_theory.proofs.DerivedElements.{DerivedWithin-alike, DerivedWithin-times}
 use Rattle.ve_trace.proofs.Products.{StaysFor, times_no_letters, times_first_letter}
-
-pub derived-sum : (P : Presentation) (k : ℕ) (u v : Element) → DerivedWithin P k u → DerivedWithin P k v → DerivedWithin P k (u ++ v)
-derived-sum P k u v g h =
-    DerivedWithin-alike P k (SameWeights-append (scaled-one P.prime u) (scaled-one P.prime v)) (DerivedWithin-combined P k 1 1 g h)
-
-pub derived-extended : {J : Type 0} (P : Presentation) (k : ℕ) (f : J → Element) (v : Combination J) → All (λ t. DerivedWithin P k (f t.0)) v → DerivedWithin P k (extended f v)
-unfolding extended
-derived-extended P k f [] derived = DerivedWithin-nothing P k
-derived-extended {J} P k f (t ∷ v) derived =
-    DerivedWithin-alike P k (SameWeights-append (SameWeights-refl P.prime (scaled t.1 (f t.0))) (scaled-one P.prime (extended f v)))
-    (DerivedWithin-combined P k t.1 1 (All-head (λ (s : J × ℕ). DerivedWithin P k (f s.0)) t v derived)
-    (derived-extended P k f v (All-tail (λ (s : J × ℕ). DerivedWithin P k (f s.0)) t v derived)))
 
 pub stays_for_next : ReachAddsUp → (P : Presentation) (k x : ℕ) (u : List ℕ) (e : Element) → StaysFor P k (x ∷ u) e → StaysFor P k u (times_letter e x)
 unfolding letters_weight

@@ -12,11 +12,12 @@ use Rattle.ve_theory.proofs.Sums.{SameWeights, SameWeights_of, SameWeights-refl,
 use Rattle.ve_theory.proofs.Members.{All-scaled}
 use Rattle.ve_theory.proofs.Remainders.{All-extended, All-combination_of}
 use Rattle.ve_theory.proofs.DerivedElements.{DerivedWithin-alike, DerivedWithin-nothing}
+use Rattle.ve_lemmas.proofs.Derivations.{DerivedWithin-extended, DerivedWithin-append}
 use Rattle.ve_vec.specs.Tracing.{PartialTable, row_or_zero, vector_times, vector_times_letters}
 use Rattle.ve_table.specs.Tables.{ActionTable, presented, word_at, element_of, on_words}
 use Rattle.ve_trace.specs.Within.{AreRowsOf, StandsForElement}
 use Rattle.ve_trace.proofs.Products.{StaysFor, times_no_letters, times_first_letter, times_sum, times_scaled}
-use Rattle.ve_trace.proofs.Derivations.{derived-sum, derived-extended, derived-times, stays_for_next}
+use Rattle.ve_trace.proofs.Derivations.{derived-times, stays_for_next}
 use Rattle.ve_trace.proofs.SoundRows.{IsIdFor, HasIdsFor, IsProductRow, product_row}
 
 module _ (adds : ReachAddsUp) (T : ActionTable) (rows : PartialTable) (are : AreRowsOf T (presented T).prime rows) (ordered : IsTotalOrder (presented T)) where
@@ -36,7 +37,7 @@ module _ (adds : ReachAddsUp) (T : ActionTable) (rows : PartialTable) (are : Are
   -- what stands for something that stands for the element, but for what is derived
   pub stands-through : (e f : Element) (v : Row) → DerivedWithin P T.level (difference p e f) → StandsForElement T f v → StandsForElement T e v
   stands-through e f v d h =
-      DerivedWithin-alike P T.level (differences-append p e f (element_of T v) positive) (derived-sum P T.level (difference p e f) (difference p f (element_of T v)) d h)
+      DerivedWithin-alike P T.level (differences-append p e f (element_of T v) positive) (DerivedWithin-append P T.level d h)
 
   -- sums of what is stood for
   pub stands-extended : {J : Type 0} (f : J → Element) (g : J → Row) (v : Combination J) → All (λ t. StandsForElement T (f t.0) (g t.0)) v → StandsForElement T (extended f v) (extended g v)
@@ -44,7 +45,7 @@ module _ (adds : ReachAddsUp) (T : ActionTable) (rows : PartialTable) (are : Are
       DerivedWithin-alike P T.level
       (SameWeights-trans (differences-extended p f (λ j. element_of T (g j)) v)
       (SameWeights-difference (SameWeights-refl p (extended f v)) (SameWeights-sym (extended-extended p (λ j. unit (word_at T j)) g v))))
-      (derived-extended P T.level (λ j. difference p (f j) (element_of T (g j))) v h)
+      (DerivedWithin-extended P T.level (λ j. difference p (f j) (element_of T (g j))) v h)
 
   pub stands-itself : (v : Row) → StandsForElement T (element_of T v) v
   stands-itself v =

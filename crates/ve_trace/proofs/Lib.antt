@@ -8,6 +8,7 @@ pub mod Following
 pub mod Walking
 pub mod Products
 pub mod Derivations
+pub mod Vanishing
 pub mod SoundRows
 pub mod DerivedProducts
 pub mod TracedProducts

@@ -1,24 +1,12 @@
 -- Coefficients of vectors.
-use Rattle.std.proofs.Common.{◌≡◌, ◌≢◌, ℕ, zero, suc, ◌+◌, ◌%◌, ◌<◌, ◌≤◌, nat_eq, [], ◌∷◌, All, Some, slice_get, slice_index_or, length, ◌⊎◌, inl, inr, refl, sym, ap, ◌∙◌, eq-eqb, arith}
+use Rattle.std.proofs.Common.{◌≡◌, ◌≢◌, ℕ, zero, suc, ◌%◌, ◌<◌, ◌≤◌, nat_eq, [], ◌∷◌, All, Some, slice_get, slice_index_or, length, ◌⊎◌, inl, inr, refl, sym, ap, ◌∙◌, arith}
 use Rattle.std.proofs.Math.Nat.{mod-eq_of_lt, zero-mod}
-use Rattle.std.proofs.lemmas.Bool.{cond-true, cond-false, ne_eqb, cases_lt}
+use Rattle.std.proofs.lemmas.Bool.{cases_lt}
 use Rattle.std.proofs.lemmas.Option.{slice_get-get_or}
 use Rattle.std.proofs.lemmas.List.Elements.{All-head, All-tail, All-weaker}
 use Rattle.ve_theory.specs.Residues.{Congruent}
 use Rattle.ve_theory.specs.Combinations.{Combination, coefficient, AllBefore, IsReduced, IsReducedOf}
-
-coefficient-other : (t : ℕ × ℕ) (v : Combination ℕ) (k : ℕ) → t.0 ≢ k → coefficient nat_eq (t ∷ v) k ≡ coefficient nat_eq v k
-unfolding coefficient
-coefficient-other t v k other = omega (arith, cond-false (nat_eq t.0 k) t.1 0 (ne_eqb t.0 k other))
-
-coefficient-first : (t : ℕ × ℕ) (v : Combination ℕ) → coefficient nat_eq (t ∷ v) t.0 ≡ t.1 + coefficient nat_eq v t.0
-unfolding coefficient
-coefficient-first t v = ap (λ n. n + coefficient nat_eq v t.0) (cond-true (nat_eq t.0 t.0) t.1 0 (eq-eqb t.0 t.0 refl))
-
-coefficient-below : (j k : ℕ) (v : Combination ℕ) → j ≤ k → AllBefore ◌<◌ j v → coefficient nat_eq v k ≡ 0
-unfolding coefficient AllBefore
-coefficient-below j k [] le below = refl
-coefficient-below j k (t ∷ v) le below = coefficient-other t v k (omega (arith, below.0)) ∙ coefficient-below j k v le below.1
+use Rattle.ve_vec.proofs.Coefficients.{coefficient-below, coefficient-first, coefficient-other}
 
 before_at : (k : ℕ) (v : Combination ℕ) (at : ℕ) (t : ℕ × ℕ) → AllBefore ◌<◌ k v → slice_get v at ≡ Some t → t.0 < k
 unfolding AllBefore
