@@ -1,4 +1,3 @@
-pub mod Vanishing
 pub mod Lists
 pub mod Going
 pub mod Working

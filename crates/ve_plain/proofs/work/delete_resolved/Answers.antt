@@ -1,6 +1,6 @@
 use Rattle.ve_theory.proofs.Sums.{prime-large}
 use Rattle.ve_table.specs.Tables.{element_of, presented}
-use Rattle.ve_plain.proofs.Vanishing.{derived_too}
+use Rattle.ve_trace.proofs.Vanishing.{derived_too}
 use Rattle.ve_plain.proofs.Going.{vanishes}
 use Rattle.ve_plain.proofs.work.delete_resolved.Goals as goal
 
