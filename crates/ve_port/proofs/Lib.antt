@@ -1,0 +1,2 @@
+-- Lemmas that crates which write cite.
+pub mod ItemLines
