@@ -1,19 +1,20 @@
 -- The parts of an answer that lines are made of.
 use Rattle.std.specs.Prelude.{◌≡◌, ℕ, ◌+◌, ◌<◌, ◌≤◌, List, [], ◌∷◌, ◌++◌, length, map, codes, refl, Some, slice_get, Result}
 use Rattle.std.proofs.Common.{zero, suc, ◌-◌, inl, inr, sym, ap, subst, ◌∙◌, append_assoc, append-nil, take, get_or, add-one, arith, All}
-use Rattle.std.proofs.lemmas.List.{take_more, get_or_default, length-append, get_or_append_left, get_or-append-add}
+use Rattle.std.proofs.lemmas.List.{take_more, get_or_default, get_or_append_left, get_or-append-add}
 use Rattle.std.proofs.lemmas.Bool.{cases_lt}
 use Rattle.std.proofs.lemmas.List.Elements.{All-get_or}
 use Rattle.std.proofs.lemmas.Option.{get_or_from_slice_get}
 use Rattle.ve_theory.specs.Answers.{Answer as ModuleAnswer, Row, IsRow, dimension}
 use Rattle.ve_formats.specs.Lines.{text_of_lines, text_of_lines-append, line_text, numbers_below, each_after_space, each_after_space-append, each_after_space-one}
 use Rattle.ve_formats.specs.AnswerText.{matrix_lines, letter_lines, row_line}
+use Rattle.ve_formats.proofs.NumbersBelow.{length-numbers_below}
 use Rattle.ve_port.specs.declared.fault.OutFault.{OutFault}
 use Rattle.ve_port.specs.Sink.{Output, Gains, Gains-nil, Gains-append}
 use Rattle.ve_port.specs.Writing.{Writes, Stops, Stops-after, Stops-longer}
 use Rattle.ve_matrix.specs.declared.answer.Answer.{Answer}
 use Rattle.ve_matrix.specs.Answers.{answer_of}
-use Rattle.ve_out.proofs.Climbing.{length-words_of}
+use Rattle.ve_matrix.proofs.BasisWords.{length-words_of}
 
 pub basis_size : (A : Answer) → dimension (answer_of A).action ≡ length A.basis.items
 basis_size A = length-words_of A.basis.items
@@ -94,11 +95,6 @@ Writes-matrix n m matrices at x matrix {A} {old} {new} {r} size place inside is 
     (subst (λ rows. Writes old new (text_of_lines (map (row_line m) rows)) r) here writes)
 
 -- ---- numbers, counted up
-
-pub length-numbers_below : (n : ℕ) → length (numbers_below n) ≡ n
-unfolding numbers_below
-length-numbers_below zero = refl
-length-numbers_below (suc n) = length-append (numbers_below n) (n ∷ []) ∙ omega (arith, length-numbers_below n)
 
 pub number_at : (n at : ℕ) → at < n → at ≡ get_or (numbers_below n) at 0
 unfolding numbers_below

@@ -51,14 +51,6 @@ words_at known (q ∷ os) (suc b) o found parent =
     ∙ ap (λ ws. get_or ws (length next + b) (generator 0)) (words_after-cons known q os)
     ∙ words_at next os b o found (subst (λ n. HasParentBelow n o) place parent) ∙ ap (λ ws. spelled ws o) (sym (words_after-cons known q os))
 
-length-words_after : (known : List Word) (os : List Origin) → length (words_after known os) ≡ length known + length os
-unfolding words_after
-length-words_after known [] = omega arith
-length-words_after known (o ∷ os) = length-words_after (known ++ spelled known o ∷ []) os ∙ omega (arith, length_push known (spelled known o))
-
-pub length-words_of : (os : List Origin) → length (words_of os) ≡ length os
-length-words_of os = length-words_after [] os ∙ omega arith
-
 -- the word of a place
 abbrev pub word_of : List Origin → ℕ → Word
 word_of os b = get_or (words_of os) b (generator 0)

@@ -1,14 +1,15 @@
 -- The entries of a row, written from its last term to its first.
 use Rattle.std.specs.Prelude.{◌≡◌, ℕ, zero, suc, ◌+◌, ◌-◌, ◌*◌, ◌<◌, ◌≤◌, List, [], ◌∷◌, ◌++◌, length, map, codes, decimal, replicate, nat_eq, refl, Some, slice_get}
-use Rattle.std.proofs.Common.{sym, ap, subst, ◌∙◌, append_assoc, append-nil, arith, take, drop, All, get_or, add-one}
+use Rattle.std.proofs.Common.{sym, ap, subst, ◌∙◌, append_assoc, append-nil, arith, take, drop, get_or, add-one}
 use Rattle.std.proofs.Math.Seq.{take-append_seam, drop-cons}
 use Rattle.std.proofs.lemmas.Fmt.{decimal_digit}
 use Rattle.std.proofs.lemmas.List.{map-append, replicate-append-replicate, length-append, drop_all}
-use Rattle.std.proofs.lemmas.List.Elements.{All-get_or, All-head, All-tail}
+use Rattle.std.proofs.lemmas.List.Elements.{All-get_or}
 use Rattle.std.proofs.lemmas.Grind.{replicate_next}
 use Rattle.std.proofs.lemmas.Option.{get_or_from_slice_get}
 use Rattle.ve_theory.specs.Combinations.{coefficient, IsReduced, AllBefore}
 use Rattle.ve_theory.specs.Answers.{Row, IsRow}
+use Rattle.ve_lemmas.proofs.Sums.{AllBefore_from_All}
 use Rattle.ve_vec.proofs.Coefficients.{coefficient-below, coefficient-first, coefficient-other}
 use Rattle.ve_formats.specs.Lines.{numbers_below, numbers_below-next, each_after_space, each_after_space-append, each_after_space-one}
 use Rattle.ve_formats.specs.AnswerText.{row_entries}
@@ -127,11 +128,6 @@ first_before : (k : ℕ) (t : ℕ × ℕ) (row : Row) → AllBefore ◌<◌ k (t
 unfolding AllBefore
 first_before k t row before = before.0
 
-AllBefore-bound : (n : ℕ) (row : Row) → All (λ t. t.0 < n) row → AllBefore ◌<◌ n row
-unfolding AllBefore
-AllBefore-bound n [] all = tt
-AllBefore-bound n (t ∷ row) all = (All-head (λ t. t.0 < n) t row all, AllBefore-bound n row (All-tail (λ t. t.0 < n) t row all))
-
 AllBefore-from : (n k : ℕ) (row : Row) → AllBefore ◌<◌ n row → AllBefore ◌<◌ n (drop k row)
 unfolding AllBefore
 AllBefore-from n zero row before = before
@@ -181,10 +177,10 @@ pub row_written : (p n : ℕ) (row : Row) (from next : ℕ) (old new zeros : Lis
     → new ++ zeros ≡ old ++ row_entries n row
 row_written p n row from next old new zeros is_row start written is =
     let below : AllBefore ◌<◌ next row = subst (λ k. AllBefore ◌<◌ next (drop k row)) start written.below in
-    let most : next ≤ n = written.least n (AllBefore-from n from row (AllBefore-bound n row is_row.1)) in
+    let most : next ≤ n = written.least n (AllBefore-from n from row (AllBefore_from_All ◌<◌ n row is_row.1)) in
     let gap : next + (n - next) ≡ n = omega arith in
     ap (λ l. l ++ zeros) (written.entries ∙ ap (λ k. old ++ entries_below next (drop k row)) start) ∙ append_assoc old (entries_below next row) zeros
     ∙ ap (λ z. old ++ (entries_below next row ++ z)) is ∙ ap (λ e. old ++ e) (sym (entries_past next (n - next) row below) ∙ ap (λ m. entries_below m row) gap ∙ entries_below-all n row)
 
 pub written_below : (p n : ℕ) (row : Row) (from next : ℕ) (old new : List ℕ) → IsRow p n row → IsWritten row from next old new → next ≤ n
-written_below p n row from next old new is_row written = written.least n (AllBefore-from n from row (AllBefore-bound n row is_row.1))
+written_below p n row from next old new is_row written = written.least n (AllBefore-from n from row (AllBefore_from_All ◌<◌ n row is_row.1))

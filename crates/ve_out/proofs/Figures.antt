@@ -4,11 +4,12 @@ use Rattle.std.proofs.Common.{sym, ap, subst, ◌∙◌, arith, take, get_or, ad
 use Rattle.std.proofs.Math.Nat.{mul-le-mul}
 use Rattle.std.proofs.lemmas.Bool.{ne_eqb, eq-eqb, cond-true, cond-false}
 use Rattle.std.proofs.lemmas.List.{take_more, take_all}
-use Rattle.std.proofs.lemmas.List.Elements.{All-head, All-tail, All-get_or}
+use Rattle.std.proofs.lemmas.List.Elements.{All-get_or}
 use Rattle.std.proofs.lemmas.List.Sums.{sum_by-append}
 use Rattle.std.proofs.lemmas.Option.{get_or_from_slice_get}
 use Rattle.ve_theory.specs.Combinations.{coefficient, IsReduced, AllBefore}
 use Rattle.ve_theory.specs.Answers.{Answer, Row, IsRow, dimension}
+use Rattle.ve_lemmas.proofs.Sums.{AllBefore_from_All}
 use Rattle.ve_vec.proofs.Coefficients.{coefficient-below, coefficient-first, coefficient-other}
 use Rattle.ve_formats.specs.Lines.{numbers_below, numbers_below-next}
 use Rattle.ve_formats.specs.SummaryText.{nonzero_in_row, nonzero_entries, entry, trace, letter_summary}
@@ -68,11 +69,6 @@ nonzero_terms p n (t ∷ row) reduced below =
     later k [] before = tt
     later k (t ∷ row) before = (omega (arith, before.0), later k row before.1)
 
-bounded : (n : ℕ) (row : Row) → All (λ t. t.0 < n) row → AllBefore ◌<◌ n row
-unfolding AllBefore
-bounded n [] all = tt
-bounded n (t ∷ row) all = (All-head (λ t. t.0 < n) t row all, bounded n row (All-tail (λ t. t.0 < n) t row all))
-
 at_most_one : (c : ℕ) → counts c ≤ 1
 unfolding counts
 at_most_one c = elim (nat_eq c 0) as (λ b. cond (not b) 1 0 ≤ 1) [ true ↦ omega arith | false ↦ omega arith ]
@@ -82,7 +78,7 @@ nonzero_most zero row = omega (arith, nonzero-none row)
 nonzero_most (suc n) row = omega (arith, ap (λ m. nonzero_in_row m row) (add-one n), nonzero-next n row, nonzero_most n row, at_most_one (coefficient nat_eq row n))
 
 pub row_count : (p n : ℕ) (row : Row) → IsRow p n row → length row ≡ nonzero_in_row n row
-row_count p n row is_row = sym (nonzero_terms p n row is_row.0 (bounded n row is_row.1))
+row_count p n row is_row = sym (nonzero_terms p n row is_row.0 (AllBefore_from_All ◌<◌ n row is_row.1))
 
 -- ---- row after row
 

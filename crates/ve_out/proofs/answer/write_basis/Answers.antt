@@ -7,8 +7,8 @@ use Rattle.ve_formats.specs.Lines.{line_text}
 use Rattle.ve_port.specs.Sink.{Gains}
 use Rattle.ve_port.specs.Writing.{Writes-stopped, Writes-gained, Stops, Stops-memory}
 use Rattle.ve_matrix.specs.Answers.{answer_of}
+use Rattle.ve_port.proofs.ItemLines.{Gains-line, Gains-each, Stops-each}
 use Rattle.ve_out.specs.Parts.{basis_line}
-use Rattle.ve_out.proofs.LineByLine.{Gains-line, Gains-each, Stops-each}
 use Rattle.ve_out.proofs.AnswerParts.{basis_size}
 use Rattle.ve_out.proofs.answer.write_basis.Goals as goal
 

@@ -2,7 +2,7 @@ use Rattle.std.proofs.Common.{codes, ◌++◌}
 use Rattle.ve_formats.specs.WordText.{word_text}
 use Rattle.ve_matrix.specs.Answers.{answer_of}
 use Rattle.ve_port.specs.Sink.{Gains}
-use Rattle.ve_out.proofs.LineByLine.{text_before}
+use Rattle.ve_port.proofs.ItemLines.{text_before}
 use Rattle.ve_out.proofs.answer.write_basis.Given as goal
 
 abbrev pub invariant-loop-place : goal.invariant-loop-place

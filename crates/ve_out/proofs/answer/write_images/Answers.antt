@@ -5,7 +5,7 @@ use Rattle.ve_formats.specs.Lines.{line_text}
 use Rattle.ve_port.specs.Sink.{Gains}
 use Rattle.ve_port.specs.Writing.{Writes-stopped, Writes-gained, Stops}
 use Rattle.ve_matrix.specs.Answers.{answer_of}
-use Rattle.ve_out.proofs.LineByLine.{Gains-line, Gains-each, Stops-each}
+use Rattle.ve_port.proofs.ItemLines.{Gains-line, Gains-each, Stops-each}
 use Rattle.ve_out.proofs.AnswerParts.{basis_size, row_among}
 use Rattle.ve_out.proofs.answer.write_images.Goals as goal
 

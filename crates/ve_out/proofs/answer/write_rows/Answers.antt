@@ -2,7 +2,7 @@ use Rattle.std.proofs.Common.{◌<◌, ◌≤◌, ◌≡◌, [], length, arith, 
 use Rattle.std.proofs.lemmas.Option.{get_or_from_slice_get}
 use Rattle.ve_formats.specs.AnswerText.{row_line}
 use Rattle.ve_port.specs.Writing.{Writes-stopped, Writes-gained}
-use Rattle.ve_out.proofs.LineByLine.{Gains-line, Gains-each, Stops-each}
+use Rattle.ve_port.proofs.ItemLines.{Gains-line, Gains-each, Stops-each}
 use Rattle.ve_out.proofs.AnswerParts.{row_at}
 use Rattle.ve_out.proofs.answer.write_rows.Goals as goal
 

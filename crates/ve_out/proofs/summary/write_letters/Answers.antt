@@ -1,12 +1,13 @@
 use Rattle.std.proofs.Common.{◌<◌, ◌≤◌, ◌≡◌, ◌++◌, length, arith, sym, subst, ap, ◌∙◌}
 use Rattle.ve_formats.specs.Lines.{line_text, numbers_below}
 use Rattle.ve_formats.specs.SummaryText.{letter_summary}
+use Rattle.ve_formats.proofs.NumbersBelow.{length-numbers_below}
 use Rattle.ve_port.specs.Sink.{Gains}
 use Rattle.ve_port.specs.Writing.{Writes-stopped, Writes-gained, Stops, Stops-memory}
 use Rattle.ve_matrix.specs.Answers.{answer_of}
+use Rattle.ve_port.proofs.ItemLines.{Gains-line, Gains-each, Stops-each}
 use Rattle.ve_out.specs.Parts.{letters_text}
-use Rattle.ve_out.proofs.LineByLine.{Gains-line, Gains-each, Stops-each}
-use Rattle.ve_out.proofs.AnswerParts.{length-numbers_below, number_at}
+use Rattle.ve_out.proofs.AnswerParts.{number_at}
 use Rattle.ve_out.proofs.summary.write_letters.Goals as goal
 
 pub returns-in_err-append_letter : goal.returns-in_err-append_letter
