@@ -11,6 +11,7 @@ use Rattle.ve_theory.specs.Residues.{Congruent}
 use Rattle.ve_theory.specs.Words.{Word, same_word}
 use Rattle.ve_theory.specs.Validity.{is_digit}
 use Rattle.ve_formats.specs.Tokens.{is_number, number_value}
+use Rattle.ve_formats.proofs.Decimals.{number_digits}
 
 -- a number below a thousand has a first digit, which isn't 0, and at most three digits
 
@@ -49,17 +50,13 @@ numbered : (ds : List ℕ) → 0 < length ds → IsTrue (list_all is_digit ds) �
 numbered [] some all = absurd (omega arith)
 numbered (d ∷ ds) some all = all
 
-all_digits : (ds : List ℕ) → IsTrue (is_number ds) → IsTrue (list_all is_digit ds)
-all_digits [] h = absurd (cc)
-all_digits (d ∷ ds) h = h
-
 pub number_given : (ds : List ℕ) (o : Option ℕ) → 0 < length ds → get_or ds 0 0 ≢ 48 → length ds ≤ 3
     → ((n : ℕ) → n < 2 ^ 64 → IsTrue (is_number (decimal n)))
     → ((digits : List ℕ) → IsTrue (is_number digits) → (get_or digits 0 0 ≡ 48 → length digits ≡ 1) → number_value digits < 2 ^ 64 → decimal (number_value digits) ≡ digits)
     → MatchOption o (IsFalse (list_all is_digit ds)) (λ n. IsTrue (list_all is_digit ds) × (n ≡ number_value ds))
     → MatchOption o ((n : ℕ) → 0 < n → n < 1000 → ds ≢ decimal n) (λ n. (0 < n) × (n < 1000) × (ds ≡ decimal n))
 number_given ds None some first short digits only h = λ n positive small is.
-    let all : IsTrue (list_all is_digit ds) = subst (λ (ds : List ℕ). IsTrue (list_all is_digit ds)) (sym is) (all_digits (decimal n) (digits n (omega arith))) in
+    let all : IsTrue (list_all is_digit ds) = subst (λ (ds : List ℕ). IsTrue (list_all is_digit ds)) (sym is) (number_digits (decimal n) (digits n (omega arith))) in
     let both : true ≡ false = sym all ∙ h in
     (cc)
 number_given ds (Some n) some first short digits only (all, is) =

@@ -17,7 +17,7 @@ IsNamed (name x) = IsTrue (is_name x)
 IsNamed (number digits) = Unit {0}
 IsNamed (symbol b) = Unit {0}
 
-begins_named : {text rest : List ℕ} {t : defined.Token} → Begins text t rest → IsNamed t
+pub begins_named : {text rest : List ℕ} {t : defined.Token} → Begins text t rest → IsNamed t
 begins_named (with_name are named ends) = named
 begins_named (with_number are digits short ends) = tt
 begins_named (with_symbol are sign) = tt
@@ -29,7 +29,7 @@ lexed_named (past_separator are separates h) k d within = lexed_named h k d with
 lexed_named (past_token begins h) zero d within = begins_named begins
 lexed_named (past_token begins h) (suc k) d within = lexed_named h k d (omega arith)
 
-written : (t : lexed.Token) → IsNamed (token_of t) → HasItsValue t → IsWritten t
+pub written : (t : lexed.Token) → IsNamed (token_of t) → HasItsValue t → IsWritten t
 written (Name x) named value = named
 written (Number n digits) named value = value
 written (Symbol b) named value = tt

@@ -1,5 +1,5 @@
-mod TokenLists
-mod LexedTokens
+pub mod TokenLists
+pub mod LexedTokens
 mod ShapeSteps
 mod Limits
 mod Joining

@@ -1,5 +1,5 @@
 -- The work on all tokens of an expression of the module.
-use Rattle.std.proofs.Common.{◌≡◌, ◌≢◌, true, false, List, [], ◌∷◌, Option, Some, None, Result, Ok, Err, refl, sym, ap, ◌∙◌, is_some, IsTrue}
+use Rattle.std.proofs.Common.{◌≡◌, ◌≢◌, true, false, List, [], ◌∷◌, Some, Result, Ok, Err, refl, sym, ap, ◌∙◌, is_some, IsTrue}
 use Rattle.ve_theory.specs.Presentations.{Presentation}
 use Rattle.ve_theory.specs.Combinations.{IsReduced}
 use Rattle.ve_theory.specs.Words.{Shortlex}
@@ -16,6 +16,7 @@ use Rattle.ve_value.specs.ModuleEvaluation.{IsModuleWorkOf, ReadsModuleOn, CanRe
 use Rattle.ve_value.proofs.Joining.{tells_more}
 use Rattle.ve_value.proofs.FaultyModules.{module_faulty_to_the_end}
 use Rattle.ve_value.proofs.ModuleSteps.{module_read_all-stuck}
+use Rattle.ve_value.proofs.ModuleWorkSteps.{some_whole}
 
 -- the work is that of a reader of the front of tokens, of which the rest is left
 pub record IsModuleWorkBefore (P : Presentation) (w : ModuleWork) (all rest : List Token) : Type 0 where
@@ -67,10 +68,7 @@ unfolding module_parsed module_read_all
 module_finished P w all result h gives m is = gives h.reader m h.is_work (ap module_expression_read (sym h.goes_on) ∙ is)
 
 -- an expression that is read
-some_read : (o : Option ModuleExpression) → IsTrue (is_some o) → (m : ModuleExpression) × (o ≡ Some m)
-some_read None h = absurd (cc)
-some_read (Some m) h = (m, refl)
 
 pub module_value_reduced : (P : Presentation) (all : List Token) (v : Element) → IsTrue (is_some (module_parsed all)) → ((m : ModuleExpression) → module_parsed all ≡ Some m → GivesModule P m (Ok v))
     → IsReduced Shortlex P.prime v
-module_value_reduced P all v whole gives = let some = some_read (module_parsed all) whole in (gives some.0 some.1).reduced
+module_value_reduced P all v whole gives = let some = some_whole (module_parsed all) whole in (gives some.0 some.1).reduced

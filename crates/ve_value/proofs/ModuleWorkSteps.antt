@@ -579,7 +579,7 @@ product_fails_at_end P w v work why is multiplied r m h whole =
 
 -- what stands of a whole expression
 
-some_whole : (o : Option ModuleExpression) → IsTrue (is_some o) → (m : ModuleExpression) × (o ≡ Some m)
+pub some_whole : (o : Option ModuleExpression) → IsTrue (is_some o) → (m : ModuleExpression) × (o ≡ Some m)
 some_whole None h = absurd (cc)
 some_whole (Some m) h = (m, refl)
 
