@@ -1,3 +1,4 @@
+mod answers;
 mod lines;
 mod made;
 mod outgrown;

@@ -1,0 +1,5 @@
+pub mod Basis
+pub mod Heads
+pub mod Refusals
+pub mod Rows
+pub mod Steps
