@@ -9,9 +9,10 @@ ghost use Rattle.ve_port.specs.Writing.{Writes};
 ghost use Rattle.ve_out.specs.Parts.{basis_line, zero_entries};
 
 use crate::basis::word_at;
-use crate::pieces::{append, put, write_numbered};
+use crate::numbered::write_numbered;
 use crate::row::{append_entries, zero_entries};
 use std::alloc::Global;
+use ve_lines::{append, put};
 use ve_matrix::{Answer, Matrix};
 use ve_port::{OutFault, Sink};
 use ve_vec::Sparse;

@@ -3,8 +3,8 @@
 
 mod answer;
 mod basis;
+mod numbered;
 mod over;
-mod pieces;
 mod row;
 mod summary;
 

@@ -3,8 +3,9 @@
 ghost use Rattle.ve_formats.specs.OutgrownText.{outgrown_text};
 ghost use Rattle.ve_port.specs.Writing.{Writes};
 
-use crate::pieces::{put, write_numbered};
+use crate::numbered::write_numbered;
 use std::alloc::Global;
+use ve_lines::put;
 use ve_port::{OutFault, Sink};
 
 /// Writes that a level is outgrown: the level, its size, and the limit that it is above. One put holds one line with its line

@@ -5,8 +5,8 @@ ghost use Rattle.ve_theory.specs.Answers.{IsRow};
 ghost use Rattle.ve_formats.specs.AnswerText.{row_entries};
 ghost use Rattle.ve_out.specs.Parts.{zero_entries};
 
-use crate::pieces::{append, append_number};
 use std::alloc::Global;
+use ve_lines::{append, append_number};
 use ve_vec::Sparse;
 use ve_word::Memory;
 

@@ -8,9 +8,10 @@ ghost use Rattle.ve_matrix.specs.Answers.{IsAnswerValue, answer_of};
 ghost use Rattle.ve_port.specs.Writing.{Writes};
 ghost use Rattle.ve_out.specs.Parts.{figures_line, letters_text};
 
-use crate::pieces::{append, append_number, put, write_numbered};
+use crate::numbered::write_numbered;
 use std::alloc::Global;
 use ve_field::Field;
+use ve_lines::{append, append_number, put};
 use ve_matrix::{Answer, Matrix};
 use ve_port::{OutFault, Sink};
 use ve_word::Memory;

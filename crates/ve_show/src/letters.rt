@@ -6,7 +6,7 @@ ghost use Rattle.ve_theory.specs.Validity.{IsValid};
 ghost use Rattle.ve_formats.specs.Lines.{text_of_lines};
 ghost use Rattle.ve_formats.specs.CanonicalText.{declared_text, letter_line};
 
-use crate::pieces::{append, append_number};
+use ve_lines::{append, append_number};
 use ve_pres::Presentation;
 use ve_word::Memory;
 
@@ -69,7 +69,7 @@ fn append_declared(
     append(line, presentation.names().name(letter).as_bytes())?;
     if presentation.version() == 2 {
         append(line, b" weight ")?;
-        append_number(line, u16::from(presentation.weight_of(letter)))?;
+        append_number(line, u64::from(presentation.weight_of(letter)))?;
     }
     Ok(())
 }

@@ -6,8 +6,8 @@ ghost use Rattle.ve_theory.specs.Words.{letters};
 ghost use Rattle.ve_formats.specs.Lines.{line_text};
 ghost use Rattle.ve_formats.specs.CanonicalText.{relation_line, submodule_line};
 
-use crate::pieces::append;
 use crate::sums::{append_algebra_sum, append_module_sum};
+use ve_lines::append;
 use ve_pres::{FreeAlg, FreeMod, Presentation};
 use ve_word::Memory;
 

@@ -4,7 +4,8 @@ ghost use Rattle.std.specs.Prelude.{◌≡◌, ◌<◌, ◌++◌, All, IfOk, len
 ghost use Rattle.ve_theory.specs.Words.{letters as letters_of};
 ghost use Rattle.ve_formats.specs.CanonicalText.{algebra_term_text, joined_terms, letters_text, term_text};
 
-use crate::pieces::{append, append_coefficient, append_joint, append_number};
+use crate::pieces::{append_coefficient, append_joint};
+use ve_lines::{append, append_number};
 use ve_pres::{FreeAlg, FreeMod};
 use ve_word::{Memory, Names, Word, write_word};
 
@@ -51,7 +52,7 @@ fn append_algebra_term(
     ensures { IfOk result (λ _. line.new.items ≡ line.old.items ++ algebra_term_text names.now (letters.now, coefficient)) }
 {
     if letters.is_empty() {
-        return append_number(line, u16::from(coefficient));
+        return append_number(line, u64::from(coefficient));
     }
     append_coefficient(line, coefficient)?;
     append_letters(line, names, letters)

@@ -10,9 +10,9 @@ ghost use Rattle.ve_port.specs.Writing.{Writes};
 ghost use Rattle.ve_show.specs.Parts.{declarations_text, numbered_line, relations_text, submodule_text};
 
 use crate::letters::append_letter;
-use crate::pieces::{append, append_number};
 use crate::relations::{append_relation, append_submodule_relation};
 use std::alloc::Global;
+use ve_lines::{append, append_number};
 use ve_port::{OutFault, Sink};
 use ve_pres::{FreeAlg, FreeMod, Presentation};
 
@@ -30,8 +30,7 @@ pub fn show<K: Sink>(
 ) -> Result<(), OutFault>
     ensures { Writes (K.output out.old) (K.output out.new) (canonical presentation.now.presentation) result }
 {
-    // Every presentation is valid.
-    let _field = presentation.field();
+    presentation.is_valid();
     let mut line = Vec::new(alloc);
     show_declarations(&mut line, presentation, out)?;
     show_relations(&mut line, presentation, out)?;
@@ -72,7 +71,7 @@ fn show_numbered<K: Sink>(
 {
     line.clear();
     append(line, word)?;
-    append_number(line, number)?;
+    append_number(line, u64::from(number))?;
     append(line, b"\n")?;
     put(line, out)
 }
