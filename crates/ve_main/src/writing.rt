@@ -39,7 +39,7 @@ pub(crate) fn write_enumeration<K: Sink>(
 {
     match enumerate(alloc, presentation, limit) {
         Ended::Closed(finished) => {
-            let answer = Answer::of(alloc, &finished)?;
+            let answer = Answer::from_finished(alloc, finished)?;
             write_result(alloc, &answer, summary, out)?;
             Ok(DONE)
         }
