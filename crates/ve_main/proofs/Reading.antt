@@ -1,11 +1,15 @@
 -- The input, taken piece by piece.
-use Rattle.std.specs.Prelude.{◌≡◌, ℕ, ◌+◌, ◌<◌, ◌≤◌, List, [], ◌++◌, length, IfSome, refl}
+use Rattle.std.specs.Prelude.{◌≡◌, ℕ, ◌+◌, ◌<◌, ◌≤◌, List, [], ◌++◌, length, drop, take, IfSome, refl}
 use Rattle.std.specs.Io.KnownBytes.{prepend_known}
 use Rattle.std.proofs.Common.{ap, sym, subst, ◌∙◌, arith, length-append}
 use Rattle.ve_port.specs.Count.{HasRisen}
 use Rattle.ve_main.specs.declared.stop.Stop.{Stop}
 use Rattle.ve_main.specs.declared.stop.Stop.TheVariants.{Words, TooLong, Refused, NoPresentation, Input as Source, Output, Memory}
-use Rattle.ve_main.specs.Ending.{StopsTaking, StopsReading, StopsReadingText, StopsTakingPresentation, TakesFew, TakesAll, IsRefused}
+use Rattle.ve_theory.specs.Presentations.{Presentation}
+use Rattle.ve_formats.specs.PresentationText.{Spells}
+use Rattle.ve_main.specs.Refusals.{IsRefused}
+use Rattle.ve_main.specs.Claims.{IsCut, IsNoAnswer, IsNoClaim, no_presentation, no_answer}
+use Rattle.ve_main.specs.Ending.{StopsTaking, StopsReading, StopsReadingText, StopsTakingText, TakesFew, TakesAll}
 use Rattle.ve_port.specs.Source.{Input, Gives, Fails, Gives-nil, Gives-append}
 
 -- these bytes were taken, at most one more than an input may have; the buffer keeps its room
@@ -41,21 +45,40 @@ few_nothing source = takes_few (Gives-nil source) (omega arith)
 pub few_all : (old new : Input) (bytes : List ℕ) → TakesAll old new bytes → TakesFew old new
 few_all old new bytes takes = takes_few takes.gives (let short = takes.short in omega arith)
 
--- what stopped the reading stopped the presentation
-pub stops_reading : (old new : Input) (stop : Stop) → StopsReading old new stop → StopsTakingPresentation old new stop
-stops_reading old new Words h = h
-stops_reading old new TooLong h = h
-stops_reading old new (Refused message) h = absurd h
-stops_reading old new NoPresentation h = h
-stops_reading old new Source h = h
-stops_reading old new Output h = h
-stops_reading old new Memory h = h
+-- what stopped the reading stopped what is made of the text
+pub stops_reading : (Refuses : List ℕ → List ℕ → Type 0) (old new : Input) (stop : Stop) → StopsReading old new stop → StopsTakingText Refuses old new stop
+stops_reading Refuses old new Words h = h
+stops_reading Refuses old new TooLong h = h
+stops_reading Refuses old new (Refused message) h = absurd h
+stops_reading Refuses old new NoPresentation h = h
+stops_reading Refuses old new Source h = h
+stops_reading Refuses old new Output h = h
+stops_reading Refuses old new Memory h = h
 
-pub stops_text : (old new : Input) (bytes : List ℕ) → TakesAll old new bytes → (stop : Stop) → StopsReadingText bytes stop → StopsTakingPresentation old new stop
-stops_text old new bytes takes Words h = h
-stops_text old new bytes takes TooLong h = absurd h
-stops_text old new bytes takes (Refused message) h = (bytes, takes, h)
-stops_text old new bytes takes NoPresentation h = h
-stops_text old new bytes takes Source h = absurd h
-stops_text old new bytes takes Output h = h
-stops_text old new bytes takes Memory h = (takes.gives.count, few_all old new bytes takes)
+pub stops_text : (Refuses : List ℕ → List ℕ → Type 0) (old new : Input) (bytes : List ℕ) → TakesAll old new bytes → (stop : Stop) → StopsReadingText (Refuses bytes) stop
+    → StopsTakingText Refuses old new stop
+stops_text Refuses old new bytes takes Words h = h
+stops_text Refuses old new bytes takes TooLong h = absurd h
+stops_text Refuses old new bytes takes (Refused message) h = (bytes, takes, h)
+stops_text Refuses old new bytes takes NoPresentation h = h
+stops_text Refuses old new bytes takes Source h = absurd h
+stops_text Refuses old new bytes takes Output h = h
+stops_text Refuses old new bytes takes Memory h = (takes.gives.count, few_all old new bytes takes)
+
+-- what stopped the reading of the front, or of the answer behind it, stopped the reading of the claim
+pub stops_otherwise : (Refuses Others : List ℕ → Type 0) → ((message : List ℕ) → Refuses message → Others message) → (stop : Stop) → StopsReadingText Refuses stop
+    → StopsReadingText Others stop
+stops_otherwise Refuses Others further Words h = h
+stops_otherwise Refuses Others further TooLong h = h
+stops_otherwise Refuses Others further (Refused message) h = further message.items h
+stops_otherwise Refuses Others further NoPresentation h = h
+stops_otherwise Refuses Others further Source h = h
+stops_otherwise Refuses Others further Output h = h
+stops_otherwise Refuses Others further Memory h = h
+
+pub stops_in_front : (text : List ℕ) (at : ℕ) → IsCut text at → (stop : Stop) → StopsReadingText (IsRefused (take at text)) stop → StopsReadingText (IsNoClaim text) stop
+stops_in_front text at cut = stops_otherwise (IsRefused (take at text)) (IsNoClaim text) (λ message r. no_presentation cut r)
+
+pub stops_behind : (text : List ℕ) (at : ℕ) (P : Presentation) → IsCut text at → Spells (take at text) P → (stop : Stop) → StopsReadingText (IsNoAnswer (drop at text)) stop
+    → StopsReadingText (IsNoClaim text) stop
+stops_behind text at P cut spells = stops_otherwise (IsNoAnswer (drop at text)) (IsNoClaim text) (λ message r. no_answer cut spells r)

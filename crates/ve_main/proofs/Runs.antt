@@ -1,16 +1,20 @@
 -- A run where nothing fails ends with what is due to its text.
-use Rattle.std.specs.Prelude.{◌≡◌, ℕ, ◌+◌, ◌<◌, ◌≤◌, ◌⊎◌, Bool, List, [], ◌∷◌, ◌++◌, length, codes, Option, Some, None, IfSome, refl, Result, Ok, Err, OnOk, OnErr, IfErr}
+use Rattle.std.specs.Prelude.{◌≡◌, ℕ, ◌+◌, ◌<◌, ◌≤◌, ◌⊎◌, Bool, List, [], ◌∷◌, ◌++◌, length, codes, drop, take, Option, Some, None, IfSome, refl, Result, Ok, Err, OnOk, OnErr, IfErr}
 use Rattle.std.specs.Io.KnownBytes.{prepend_known}
 use Rattle.std.proofs.Common.{ap, sym, subst, ◌∙◌, inl, inr, arith, append-nil, length-append}
 use Rattle.ve_theory.specs.Presentations.{Presentation, IsPresentation}
 use Rattle.ve_theory.specs.Levels.{IsFinishedAt, IsOutgrown}
 use Rattle.ve_theory.specs.Laws.{ListsAreUnique}
+use Rattle.ve_theory.specs.Answers.{Answer, HasShape, MeetsRelations}
+use Rattle.ve_theory.specs.Verdicts.{Verdict, is_quotient, shape_differs, relator_fails, submodule_fails, basis_word_fails, IsVerdict}
 use Rattle.ve_port.specs.Source.{Input, Gives}
 use Rattle.ve_port.specs.Sink as Sink
 use Rattle.ve_port.specs.Sink.{Gains, Breaks}
 use Rattle.ve_formats.specs.Causes.{Cause}
 use Rattle.ve_formats.specs.PresentationText.{Spells, IsRefusedAt}
-use Rattle.ve_formats.specs.Messages.{refusal_message}
+use Rattle.ve_formats.specs.AnswerReading.{ShowsAnswer, IsNoAnswerAt}
+use Rattle.ve_formats.specs.Messages.{answer_refusal_message, refusal_message}
+use Rattle.ve_read.specs.Cutting.{IsSplitAt}
 use Rattle.ve_words.specs.declared.command.Command.{Command}
 use Rattle.ve_words.specs.declared.command.Command.TheVariants.{Alone, Shared, Show, Check, Make}
 use Rattle.ve_words.specs.declared.fault.WordsFault.{WordsFault}
@@ -19,9 +23,11 @@ use Rattle.ve_words.specs.Meaning.{Means, WordsMeanOnce}
 use Rattle.std.proofs.lemmas.Result.{IfErr-weaker}
 use Rattle.ve_main.specs.declared.stop.Stop.{Stop}
 use Rattle.ve_main.specs.declared.stop.Stop.TheVariants.{Words, TooLong, Refused, NoPresentation, Input as Source, Output, Memory}
-use Rattle.ve_main.specs.Commands.{Asks, IsRun, IsReading, HasLimit, IsShowing, CanMake, CannotMake, Enumerates, Shows}
+use Rattle.ve_main.specs.Commands.{IsReading, HasLimit, IsShowing, IsChecking, CanMake, CannotMake, Enumerates, Shows}
 use Rattle.ve_main.specs.Stops.{status_of, message_of, stop_of_words}
-use Rattle.ve_main.specs.Ending.{most_input, TakesAll, TakesTooMany, TakesPresentation, TakesFew, StopsWriting, Streams, Calls, Performs, Finishes, Because, BecauseOf, IsDue, too_long, refused, finished, outgrown, shown, made, not_made, IsServed, Tells}
+use Rattle.ve_main.specs.Refusals.{IsRefused}
+use Rattle.ve_main.specs.Claims.{IsClaim, IsCut, IsNoAnswer, IsNoClaim, no_presentation, no_answer, Judges, verdict_status}
+use Rattle.ve_main.specs.Ending.{most_input, TakesAll, TakesTooMany, TakesClaim, TakesPresentation, TakesFew, Refuses, StopsWriting, Streams, Calls, Performs, Finishes, Because, BecauseOf, IsDue, too_long, refused, finished, outgrown, shown, checked, made, not_made, IsServed, Tells}
 use Rattle.ve_main.proofs.Endings.{never_both}
 use Rattle.ve_main.proofs.Reading.{few_all}
 
@@ -53,19 +59,31 @@ too_many old new text takes told =
 
 -- ---- what is due
 
--- a text has one reading: it spells one presentation, which is valid, or is refused at one line for one cause; and lists are unique
+-- A text has one reading: it spells one presentation, which is valid, or is refused at one line for one cause. It is cut at one
+-- place, and shows one answer, or is refused at one line. And lists are unique.
 pub record IsReadOnce : Type 0 where
   pub same_presentation : (text : List ℕ) (P Q : Presentation) → Spells text P → Spells text Q → P ≡ Q
   pub same_refusal : (text : List ℕ) (line other : ℕ) (cause why : Cause) → IsRefusedAt text line cause → IsRefusedAt text other why → (line ≡ other) × (cause ≡ why)
   pub never_both_readings : (text : List ℕ) (P : Presentation) (line : ℕ) (cause : Cause) → Spells text P → IsRefusedAt text line cause → ⊥
   pub valid : (text : List ℕ) (P : Presentation) → Spells text P → IsPresentation P
+  pub same_place : (text : List ℕ) (at other : ℕ) → at ≤ length text → other ≤ length text → IsSplitAt text at → IsSplitAt text other → at ≡ other
+  pub same_answer : (text : List ℕ) (A B : Answer) → ShowsAnswer text A → ShowsAnswer text B → A ≡ B
+  pub same_line : (text : List ℕ) (line other : ℕ) → IsNoAnswerAt text line → IsNoAnswerAt text other → line ≡ other
+  pub never_both_answers : (text : List ℕ) (A : Answer) (line : ℕ) → ShowsAnswer text A → IsNoAnswerAt text line → ⊥
   pub lists : ListsAreUnique
   pub words : WordsMeanOnce
 
 abbrev IsStatus : ℕ → List ℕ → ℕ → List ℕ → Type 0
 IsStatus status said due message = ((status ≡ due) × (said ≡ message)) ⊎ (status ≡ 6)
 
--- a command that enumerates reads, and one that reads doesn't make
+-- what a command refuses it reads; one that enumerates reads, and one that reads doesn't make
+refuses_reads : (command : Command) (text message : List ℕ) → Refuses command text message → IsReading command
+refuses_reads (Alone bound summary) text message r = tt
+refuses_reads (Shared workers bound summary) text message r = tt
+refuses_reads Show text message r = tt
+refuses_reads Check text message r = tt
+refuses_reads (Make points node prime) text message r = absurd r
+
 limit_reads : (command : Command) (limit : ℕ) → HasLimit command limit → IsReading command
 limit_reads (Alone bound summary) limit h = tt
 limit_reads (Shared workers bound summary) limit h = tt
@@ -86,6 +104,49 @@ shows_reads (Shared workers bound summary) h = absurd h
 shows_reads Show h = tt
 shows_reads Check h = absurd h
 shows_reads (Make points node prime) h = absurd h
+
+checks_reads : (command : Command) → IsChecking command → IsReading command
+checks_reads (Alone bound summary) h = absurd h
+checks_reads (Shared workers bound summary) h = absurd h
+checks_reads Show h = absurd h
+checks_reads Check h = tt
+checks_reads (Make points node prime) h = absurd h
+
+limit_never_checks : (command : Command) (limit : ℕ) → HasLimit command limit → IsChecking command → ⊥
+limit_never_checks (Alone bound summary) limit h s = s
+limit_never_checks (Shared workers bound summary) limit h s = s
+limit_never_checks Show limit h s = h
+limit_never_checks Check limit h s = h
+limit_never_checks (Make points node prime) limit h s = h
+
+shows_never_checks : (command : Command) → IsShowing command → IsChecking command → ⊥
+shows_never_checks (Alone limit summary) r m = m
+shows_never_checks (Shared workers limit summary) r m = m
+shows_never_checks Show r m = m
+shows_never_checks Check r m = r
+shows_never_checks (Make points node prime) r m = m
+
+-- what a command refuses that enumerates, shows or checks
+refused_limit : (command : Command) (limit : ℕ) → HasLimit command limit → (text message : List ℕ) → Refuses command text message → IsRefused text message
+refused_limit (Alone bound summary) limit h text message r = r
+refused_limit (Shared workers bound summary) limit h text message r = r
+refused_limit Show limit h text message r = absurd h
+refused_limit Check limit h text message r = absurd h
+refused_limit (Make points node prime) limit h text message r = absurd h
+
+refused_show : (command : Command) → IsShowing command → (text message : List ℕ) → Refuses command text message → IsRefused text message
+refused_show (Alone bound summary) h text message r = absurd h
+refused_show (Shared workers bound summary) h text message r = absurd h
+refused_show Show h text message r = r
+refused_show Check h text message r = absurd h
+refused_show (Make points node prime) h text message r = absurd h
+
+refused_check : (command : Command) → IsChecking command → (text message : List ℕ) → Refuses command text message → IsNoClaim text message
+refused_check (Alone bound summary) h text message r = absurd h
+refused_check (Shared workers bound summary) h text message r = absurd h
+refused_check Show h text message r = absurd h
+refused_check Check h text message r = r
+refused_check (Make points node prime) h text message r = absurd h
 
 reads_never_makes : (command : Command) → IsReading command → CanMake command → ⊥
 reads_never_makes (Alone limit summary) r m = m
@@ -115,18 +176,89 @@ same_limit Show limit bound h k = absurd h
 same_limit Check limit bound h k = absurd h
 same_limit (Make points node prime) limit bound h k = absurd h
 
+-- ---- one reading alone
+
+module _ (once : IsReadOnce) (text : List ℕ) where
+  same_cut : {at other : ℕ} → IsCut text at → IsCut text other → at ≡ other
+  same_cut {at} {other} cut also = once.same_place text at other cut.within also.within cut.split also.split
+
+  spells_or_refused : (P : Presentation) (front message : List ℕ) → Spells front P → IsRefused front message → ⊥
+  spells_or_refused P front message spells r = once.never_both_readings front P r.line r.cause spells r.refused
+
+  same_message : (front message said : List ℕ) → IsRefused front message → IsRefused front said → message ≡ said
+  same_message front message said r q =
+      let same = once.same_refusal front r.line q.line r.cause q.cause r.refused q.refused in
+      r.told ∙ ap (λ l. refusal_message l r.cause) same.0 ∙ ap (refusal_message q.line) same.1 ∙ sym q.told
+
+  claim_or_none : (P : Presentation) (A : Answer) (message : List ℕ) → IsClaim text P A → IsNoClaim text message → ⊥
+  claim_or_none P A message claim (no_presentation {at} cut r) =
+      spells_or_refused P (take claim.at text) message claim.spells (subst (λ n. IsRefused (take n text) message) (same_cut cut claim.cut) r)
+  claim_or_none P A message claim (no_answer {at} {P = Q} cut spells none) =
+      once.never_both_answers (drop claim.at text) A none.line claim.shows (subst (λ n. IsNoAnswerAt (drop n text) none.line) (same_cut cut claim.cut) none.refused)
+
+  same_no_claim : (message said : List ℕ) → IsNoClaim text message → IsNoClaim text said → message ≡ said
+  same_no_claim message said (no_presentation {at} cut r) (no_presentation {at = other} also q) =
+      same_message (take other text) message said (subst (λ n. IsRefused (take n text) message) (same_cut cut also) r) q
+  same_no_claim message said (no_presentation {at} cut r) (no_answer {at = other} {P} also spells none) =
+      absurd (spells_or_refused P (take other text) message spells (subst (λ n. IsRefused (take n text) message) (same_cut cut also) r))
+  same_no_claim message said (no_answer {at} {P} cut spells none) (no_presentation {at = other} also q) =
+      absurd (spells_or_refused P (take at text) said spells (subst (λ n. IsRefused (take n text) said) (same_cut also cut) q))
+  same_no_claim message said (no_answer {at} cut spells none) (no_answer {at = other} also reads nothing) =
+      let line = once.same_line (drop other text) none.line nothing.line (subst (λ n. IsNoAnswerAt (drop n text) none.line) (same_cut cut also) none.refused) nothing.refused in
+      none.told ∙ ap answer_refusal_message line ∙ sym nothing.told
+
+  same_refusals : (command : Command) (message said : List ℕ) → Refuses command text message → Refuses command text said → message ≡ said
+  same_refusals (Alone bound summary) message said r q = same_message text message said r q
+  same_refusals (Shared workers bound summary) message said r q = same_message text message said r q
+  same_refusals Show message said r q = same_message text message said r q
+  same_refusals Check message said r q = same_no_claim message said r q
+  same_refusals (Make points node prime) message said r q = absurd r
+
+-- ---- one verdict alone
+
+yes_or_seven : (verdict : Verdict) → (verdict ≡ is_quotient) ⊎ (verdict_status verdict ≡ 7)
+yes_or_seven is_quotient = inl refl
+yes_or_seven shape_differs = inr refl
+yes_or_seven (relator_fails number row) = inr refl
+yes_or_seven (submodule_fails number) = inr refl
+yes_or_seven (basis_word_fails row) = inr refl
+
+-- a quotient has no failure
+yes_alone : (P : Presentation) (A : Answer) (verdict : Verdict) → HasShape P A → MeetsRelations P A.action → IsVerdict P A verdict → verdict_status verdict ≡ 0
+unfolding IsVerdict
+yes_alone P A is_quotient shape meets h = refl
+yes_alone P A shape_differs shape meets h = absurd (h shape)
+yes_alone P A (relator_fails number row) shape meets h = absurd (h.fails (meets.relators number row h.exists.0 h.exists.1))
+yes_alone P A (submodule_fails number) shape meets h = absurd (h.fails (meets.submodule number h.exists))
+yes_alone P A (basis_word_fails row) shape meets h = absurd (h.fails (meets.own_rows row h.exists))
+
+yes_parts : (P : Presentation) (A : Answer) (verdict : Verdict) → verdict ≡ is_quotient → IsVerdict P A verdict → HasShape P A × MeetsRelations P A.action
+unfolding IsVerdict
+yes_parts P A verdict is h = subst (IsVerdict P A) is h
+
+same_status : (P : Presentation) (A : Answer) (verdict other : Verdict) → IsVerdict P A verdict → IsVerdict P A other → verdict_status verdict ≡ verdict_status other
+same_status P A verdict other h k =
+    elim (yes_or_seven verdict) [
+      | inl yes ↦ let parts = yes_parts P A verdict yes h in ap verdict_status yes ∙ sym (yes_alone P A other parts.0 parts.1 k)
+      | inr seven ↦ elim (yes_or_seven other) [
+          | inl yes ↦ let parts = yes_parts P A other yes k in yes_alone P A verdict parts.0 parts.1 h ∙ sym (ap verdict_status yes)
+          | inr also ↦ seven ∙ sym also
+        ]
+    ]
+
 module _ (once : IsReadOnce) (command : Command) (text : List ℕ) where
   -- a text whose presentation was enumerated to the end
   due_finished : (P : Presentation) (limit level : ℕ) → HasLimit command limit → length text ≤ most_input → Spells text P → IsFinishedAt P limit level
       → (due : ℕ) (message : List ℕ) → IsDue command text due message → IsStatus 0 [] due message
   due_finished P limit level has short spells done _ _ (too_long _ long) = absurd (omega arith)
-  due_finished P limit level has short spells done _ _ (refused {line} {cause} _ _ at) = absurd (once.never_both_readings text P line cause spells at)
+  due_finished P limit level has short spells done _ _ (refused {message} _ r) = absurd (spells_or_refused once text P text message spells (refused_limit command limit has text message r))
   due_finished P limit level has short spells done _ _ (finished _ _ _ _) = inl (refl, refl)
   due_finished P limit level has short spells done _ _ (outgrown {P = Q} {limit = bound} {level = k} {size = n} also _ reads over) =
       let same : IsOutgrown P limit k n = subst (λ R. IsOutgrown R limit k n) (once.same_presentation text Q P reads spells)
       (subst (λ b. IsOutgrown Q b k n) (same_limit command bound limit also has) over) in
       absurd (never_both once.lists P limit level k n (once.valid text P spells) done same)
   due_finished P limit level has short spells done _ _ (shown _ _ _) = inl (refl, refl)
+  due_finished P limit level has short spells done _ _ (checked _ checks _ _ _) = absurd (limit_never_checks command limit has checks)
   due_finished P limit level has short spells done _ _ (made _) = inl (refl, refl)
   due_finished P limit level has short spells done _ _ (not_made no_made) = absurd (reads_never_cannot command (limit_reads command limit has) no_made)
 
@@ -134,13 +266,14 @@ module _ (once : IsReadOnce) (command : Command) (text : List ℕ) where
   due_outgrown : (P : Presentation) (limit level size : ℕ) → HasLimit command limit → length text ≤ most_input → Spells text P → IsOutgrown P limit level size
       → (due : ℕ) (message : List ℕ) → IsDue command text due message → IsStatus 1 [] due message
   due_outgrown P limit level size has short spells over _ _ (too_long _ long) = absurd (omega arith)
-  due_outgrown P limit level size has short spells over _ _ (refused {line} {cause} _ _ at) = absurd (once.never_both_readings text P line cause spells at)
+  due_outgrown P limit level size has short spells over _ _ (refused {message} _ r) = absurd (spells_or_refused once text P text message spells (refused_limit command limit has text message r))
   due_outgrown P limit level size has short spells over _ _ (finished {P = Q} {limit = bound} {level = k} also _ reads done) =
       let same : IsFinishedAt P limit k = subst (λ R. IsFinishedAt R limit k) (once.same_presentation text Q P reads spells)
       (subst (λ b. IsFinishedAt Q b k) (same_limit command bound limit also has) done) in
       absurd (never_both once.lists P limit k level size (once.valid text P spells) same over)
   due_outgrown P limit level size has short spells over _ _ (outgrown _ _ _ _) = inl (refl, refl)
   due_outgrown P limit level size has short spells over _ _ (shown shows _ _) = absurd (limit_never_shows command limit has shows)
+  due_outgrown P limit level size has short spells over _ _ (checked _ checks _ _ _) = absurd (limit_never_checks command limit has checks)
   due_outgrown P limit level size has short spells over _ _ (made makes) = absurd (reads_never_makes command (limit_reads command limit has) makes)
   due_outgrown P limit level size has short spells over _ _ (not_made no_made) = absurd (reads_never_cannot command (limit_reads command limit has) no_made)
 
@@ -154,64 +287,82 @@ module _ (once : IsReadOnce) (command : Command) (text : List ℕ) where
   -- one that is shown
   due_shown : (P : Presentation) → IsShowing command → length text ≤ most_input → Spells text P → (due : ℕ) (message : List ℕ) → IsDue command text due message → IsStatus 0 [] due message
   due_shown P shows short spells _ _ (too_long _ long) = absurd (omega arith)
-  due_shown P shows short spells _ _ (refused {line} {cause} _ _ at) = absurd (once.never_both_readings text P line cause spells at)
+  due_shown P shows short spells _ _ (refused {message} _ r) = absurd (spells_or_refused once text P text message spells (refused_show command shows text message r))
   due_shown P shows short spells _ _ (finished _ _ _ _) = inl (refl, refl)
   due_shown P shows short spells _ _ (outgrown {P = Q} {limit = bound} also _ _ _) = absurd (limit_never_shows command bound also shows)
   due_shown P shows short spells _ _ (shown _ _ _) = inl (refl, refl)
+  due_shown P shows short spells _ _ (checked _ checks _ _ _) = absurd (shows_never_checks command shows checks)
   due_shown P shows short spells _ _ (made _) = inl (refl, refl)
   due_shown P shows short spells _ _ (not_made no_made) = absurd (reads_never_cannot command (shows_reads command shows) no_made)
+
+  -- one whose claim is checked
+  due_checked : (P : Presentation) (A : Answer) (verdict : Verdict) → IsChecking command → length text ≤ most_input → IsClaim text P A → IsVerdict P A verdict
+      → (due : ℕ) (message : List ℕ) → IsDue command text due message → IsStatus (verdict_status verdict) [] due message
+  due_checked P A verdict checks short claim is _ _ (too_long _ long) = absurd (omega arith)
+  due_checked P A verdict checks short claim is _ _ (refused {message} _ r) = absurd (claim_or_none once text P A message claim (refused_check command checks text message r))
+  due_checked P A verdict checks short claim is _ _ (finished {limit} has _ _ _) = absurd (limit_never_checks command limit has checks)
+  due_checked P A verdict checks short claim is _ _ (outgrown {limit} has _ _ _) = absurd (limit_never_checks command limit has checks)
+  due_checked P A verdict checks short claim is _ _ (shown shows _ _) = absurd (shows_never_checks command shows checks)
+  due_checked P A verdict checks short claim is _ _ (checked {P = Q} {A = B} other _ _ also judged) =
+      let place : also.at ≡ claim.at = same_cut once text also.cut claim.cut in
+      let presentation : Q ≡ P = once.same_presentation (take claim.at text) Q P (subst (λ n. Spells (take n text) Q) place also.spells) claim.spells in
+      let answer : B ≡ A = once.same_answer (drop claim.at text) B A (subst (λ n. ShowsAnswer (drop n text) B) place also.shows) claim.shows in
+      inl (same_status P A verdict other is (subst (λ C. IsVerdict P C other) answer (subst (λ R. IsVerdict R B other) presentation judged)), refl)
+  due_checked P A verdict checks short claim is _ _ (made makes) = absurd (reads_never_makes command (checks_reads command checks) makes)
+  due_checked P A verdict checks short claim is _ _ (not_made no_made) = absurd (reads_never_cannot command (checks_reads command checks) no_made)
 
   -- numbers that have a presentation, and others
   due_made : CanMake command → (due : ℕ) (message : List ℕ) → IsDue command text due message → IsStatus 0 [] due message
   due_made makes _ _ (too_long reads long) = absurd (reads_never_makes command reads makes)
-  due_made makes _ _ (refused reads _ _) = absurd (reads_never_makes command reads makes)
+  due_made makes _ _ (refused {message} _ r) = absurd (reads_never_makes command (refuses_reads command text message r) makes)
   due_made makes _ _ (finished _ _ _ _) = inl (refl, refl)
   due_made makes _ _ (outgrown {P = Q} {limit = bound} also _ _ _) = absurd (reads_never_makes command (limit_reads command bound also) makes)
   due_made makes _ _ (shown _ _ _) = inl (refl, refl)
+  due_made makes _ _ (checked _ checks _ _ _) = absurd (reads_never_makes command (checks_reads command checks) makes)
   due_made makes _ _ (made _) = inl (refl, refl)
   due_made makes _ _ (not_made no_made) = absurd (made_or_not command makes no_made)
 
   due_not_made : CannotMake command → (due : ℕ) (message : List ℕ) → IsDue command text due message → IsStatus 3 (message_of NoPresentation) due message
   due_not_made cannot _ _ (too_long reads long) = absurd (reads_never_cannot command reads cannot)
-  due_not_made cannot _ _ (refused reads _ _) = absurd (reads_never_cannot command reads cannot)
+  due_not_made cannot _ _ (refused {message} _ r) = absurd (reads_never_cannot command (refuses_reads command text message r) cannot)
   due_not_made cannot _ _ (finished {P = Q} {limit = bound} also _ _ _) = absurd (reads_never_cannot command (limit_reads command bound also) cannot)
   due_not_made cannot _ _ (outgrown {P = Q} {limit = bound} also _ _ _) = absurd (reads_never_cannot command (limit_reads command bound also) cannot)
   due_not_made cannot _ _ (shown shows _ _) = absurd (reads_never_cannot command (shows_reads command shows) cannot)
+  due_not_made cannot _ _ (checked _ checks _ _ _) = absurd (reads_never_cannot command (checks_reads command checks) cannot)
   due_not_made cannot _ _ (made makes) = absurd (made_or_not command makes cannot)
   due_not_made cannot _ _ (not_made _) = inl (refl, refl)
 
   -- a text that is refused, and one that is too long
-  due_refusal : (line : ℕ) (cause : Cause) → IsReading command → length text ≤ most_input → IsRefusedAt text line cause
-      → (due : ℕ) (message : List ℕ) → IsDue command text due message → IsStatus 3 (refusal_message line cause) due message
-  due_refusal line cause reads short at _ _ (too_long _ long) = absurd (omega arith)
-  due_refusal line cause reads short at _ _ (refused {line = other} {cause = why} _ _ also) =
-      let same = once.same_refusal text line other cause why at also in
-      inl (refl, ap (λ l. refusal_message l cause) same.0 ∙ ap (refusal_message other) same.1)
-  due_refusal line cause reads short at _ _ (finished {P = Q} _ _ spells _) = absurd (once.never_both_readings text Q line cause spells at)
-  due_refusal line cause reads short at _ _ (outgrown {P = Q} _ _ spells _) = absurd (once.never_both_readings text Q line cause spells at)
-  due_refusal line cause reads short at _ _ (shown {P = Q} _ _ spells) = absurd (once.never_both_readings text Q line cause spells at)
-  due_refusal line cause reads short at _ _ (made makes) = absurd (reads_never_makes command reads makes)
-  due_refusal line cause reads short at _ _ (not_made no_made) = absurd (reads_never_cannot command reads no_made)
+  due_refusal : (said : List ℕ) → length text ≤ most_input → Refuses command text said → (due : ℕ) (message : List ℕ) → IsDue command text due message → IsStatus 3 said due message
+  due_refusal said short r _ _ (too_long _ long) = absurd (omega arith)
+  due_refusal said short r _ _ (refused {message} _ also) = inl (refl, same_refusals once text command said message r also)
+  due_refusal said short r _ _ (finished {P = Q} {limit} has _ spells _) = absurd (spells_or_refused once text Q text said spells (refused_limit command limit has text said r))
+  due_refusal said short r _ _ (outgrown {P = Q} {limit} has _ spells _) = absurd (spells_or_refused once text Q text said spells (refused_limit command limit has text said r))
+  due_refusal said short r _ _ (shown {P = Q} shows _ spells) = absurd (spells_or_refused once text Q text said spells (refused_show command shows text said r))
+  due_refusal said short r _ _ (checked {P = Q} {A = B} _ checks _ claim _) = absurd (claim_or_none once text Q B said claim (refused_check command checks text said r))
+  due_refusal said short r _ _ (made makes) = absurd (reads_never_makes command (refuses_reads command text said r) makes)
+  due_refusal said short r _ _ (not_made no_made) = absurd (reads_never_cannot command (refuses_reads command text said r) no_made)
 
   due_cut : IsReading command → most_input < length text → (due : ℕ) (message : List ℕ) → IsDue command text due message → IsStatus 3 (message_of TooLong) due message
   due_cut reads long _ _ (too_long _ _) = inl (refl, refl)
-  due_cut reads long _ _ (refused _ short _) = absurd (omega arith)
+  due_cut reads long _ _ (refused short _) = absurd (omega arith)
   due_cut reads long _ _ (finished _ short _ _) = absurd (omega arith)
   due_cut reads long _ _ (outgrown _ short _ _) = absurd (omega arith)
   due_cut reads long _ _ (shown _ short _) = absurd (omega arith)
+  due_cut reads long _ _ (checked _ _ short _ _) = absurd (omega arith)
   due_cut reads long _ _ (made makes) = absurd (reads_never_makes command reads makes)
   due_cut reads long _ _ (not_made no_made) = absurd (reads_never_cannot command reads no_made)
 
 -- ---- the words
 
-pub asked_limit : (words : List (List ℕ)) (command : Command) → Asks words command → (limit : ℕ) → HasLimit command limit → limit ≤ 1000000
+pub asked_limit : (words : List (List ℕ)) (command : Command) → Means words command → (limit : ℕ) → HasLimit command limit → limit ≤ 1000000
 asked_limit words (Alone bound summary) asks limit has =
-    let number = asks.means.takes.values.0 in
+    let number = asks.takes.values.0 in
     let most = number.accepted.3 in
     let value = number.value in
     omega arith
 asked_limit words (Shared workers bound summary) asks limit has =
-    let number = asks.means.takes.values.1 in
+    let number = asks.takes.values.1 in
     let most = number.accepted.3 in
     let value = number.value in
     omega arith
@@ -219,13 +370,10 @@ asked_limit words Show asks limit has = absurd has
 asked_limit words Check asks limit has = absurd has
 asked_limit words (Make points node prime) asks limit has = absurd has
 
-pub no_asked : (words : List (List ℕ)) (fault : WordsFault) → (fault ≡ Unmeant → (command : Command) → Means words command → ⊥)
-    → ((stop_of_words fault ≡ Words) × ((command : Command) → Asks words command → ⊥)) ⊎ (stop_of_words fault ≡ Memory)
-no_asked words Unmeant none = inl (refl, λ command asks. none refl command asks.means)
-no_asked words Wanted none = inr refl
-
-pub only_check : (words : List (List ℕ)) → WordsMeanOnce → Means words Check → (command : Command) → Asks words command → ⊥
-only_check words once means command asks = subst IsRun (once words command Check asks.means means) asks.runs
+pub stopped_words : (words : List (List ℕ)) (streams : Streams) (fault : WordsFault) → (fault ≡ Unmeant → (command : Command) → Means words command → ⊥)
+    → Because (stop_of_words fault) words streams streams
+stopped_words words streams Unmeant none = inl (refl, (λ command means. none refl command means), refl)
+stopped_words words streams Wanted none = inr (inl (refl, refl))
 
 -- ---- what stops a command while its text is written
 
@@ -253,6 +401,12 @@ stopped_show old new P taken r h =
     IfErr-weaker r _ _ (λ stop stops. stopped_command Show (Shows P) old new (λ status text called. (P, taken, called)) taken.takes.gives.count
     (few_all old.source new.source taken.bytes taken.takes) stop stops) h
 
+pub stopped_verdict : {X : Type 0} (old new : Streams) (P : Presentation) (A : Answer) → TakesClaim old.source new.source P A
+    → (r : Result X Stop) → IfErr r (StopsWriting (Judges P A) old.out new.out) → IfErr r (λ stop. BecauseOf stop Check old new)
+stopped_verdict old new P A taken r h =
+    IfErr-weaker r _ _ (λ stop stops. stopped_command Check (Judges P A) old new (λ status text called. (P, A, taken, called)) taken.takes.gives.count
+    (few_all old.source new.source taken.bytes taken.takes) stop stops) h
+
 -- ---- how a run ends
 
 -- what was taken is the whole text
@@ -273,14 +427,18 @@ performed_due once (Shared workers limit summary) old new status out text (P, ta
 performed_due once Show old new status out text (P, taken, shows) told due message h =
     let all = whole old.source new.source text P taken (told tt) in
     subst (λ s. IsStatus s [] due message) (sym shows.0) (due_shown once Show text P tt all.0 all.1 due message h)
-performed_due once Check old new status out text calls told due message h = absurd calls
+performed_due once Check old new status out text (P, A, taken, judges) told due message h =
+    let all : taken.bytes ≡ text = told_bytes old.source new.source taken.bytes text taken.takes (told tt) in
+    subst (λ s. IsStatus s [] due message) (sym judges.is_status)
+    (due_checked once Check text P A judges.verdict tt (short_enough old.source new.source taken.bytes text taken.takes (told tt)) (subst (λ t. IsClaim t P A) all taken.claim)
+    judges.is_verdict due message h)
 performed_due once (Make points node prime) old new status out text (nothing, (makes, shows)) told due message h =
     subst (λ s. IsStatus s [] due message) (sym shows.0) (due_made once (Make points node prime) text makes due message h)
 
 pub finished_due : IsReadOnce → {words : List (List ℕ)} {old new : Streams} {status : ℕ} → Finishes words old new status → (command : Command) (text : List ℕ) (due : ℕ) (message : List ℕ)
     → IsServed words old new command text → IsDue command text due message → IsStatus status [] due message
 finished_due once {words} {old} {new} {status} ends command text due message served is_due =
-    let same : ends.command ≡ command = once.words words ends.command command ends.asks.means served.asks.means in
+    let same : ends.command ≡ command = once.words words ends.command command ends.asks served.asks in
     let performs : Performs command old new status = subst (λ c. Performs c old new status) same ends.performs in
     performed_due once command old new status performs.0 text performs.1 served.told due message is_due
 
@@ -289,11 +447,11 @@ because_due : IsReadOnce → {words : List (List ℕ)} {old new : Streams} (stop
 because_due once Words command because text due message served is_due = absurd because
 because_due once {old = old} {new = new} TooLong command because text due message served is_due =
     due_cut once command text because.0 (too_many old.source new.source text because.1 (served.told because.0)) due message is_due
-because_due once {old = old} {new = new} (Refused told) command (reads, (bytes, takes, refused_here), nothing) text due message served is_due =
+because_due once {old = old} {new = new} (Refused told) command ((bytes, takes, r), nothing) text due message served is_due =
+    let reads : IsReading command = refuses_reads command bytes told.items r in
     let all : bytes ≡ text = told_bytes old.source new.source bytes text takes (served.told reads) in
-    subst (λ said. IsStatus 3 said due message) (sym refused_here.told)
-    (due_refusal once command text refused_here.line refused_here.cause reads (short_enough old.source new.source bytes text takes (served.told reads))
-    (subst (λ t. IsRefusedAt t refused_here.line refused_here.cause) all refused_here.refused) due message is_due)
+    due_refusal once command text told.items (short_enough old.source new.source bytes text takes (served.told reads))
+    (subst (λ t. Refuses command t told.items) all r) due message is_due
 because_due once NoPresentation command because text due message served is_due = due_not_made once command text because.0 due message is_due
 because_due once Source command because text due message served is_due = absurd (served.source_holds because.1)
 because_due once Output command because text due message served is_due = absurd (served.out_holds because.1)
@@ -304,7 +462,7 @@ pub stopped_due : IsReadOnce → {words : List (List ℕ)} {old new : Streams} (
 stopped_due once stop (inl (_, asks_none, _)) command text due message served is_due = absurd (asks_none command served.asks)
 stopped_due once stop (inr (inl (memory, _))) command text due message served is_due = inr (ap status_of memory)
 stopped_due once {words} {old} {new} stop (inr (inr (other, asks, because))) command text due message served is_due =
-    because_due once stop command (subst (λ c. BecauseOf stop c old new) (once.words words other command asks.means served.asks.means) because) text due message served is_due
+    because_due once stop command (subst (λ c. BecauseOf stop c old new) (once.words words other command asks served.asks) because) text due message served is_due
 
 -- what a put of a message tells
 pub told_put : {A E : Type 0} {err err' : Sink.Output} {message said : List ℕ} (r : Result A E) → OnOk r (Gains err err' message) → OnErr r (Breaks err err' message) → message ≡ said

@@ -1,4 +1,4 @@
--- The commands that run, and what each makes of its input.
+-- Kinds of commands, and the texts that they write.
 use Rattle.std.specs.Prelude.{◌≡◌, ℕ, ◌⊎◌, Bool, cond, List}
 use Rattle.ve_theory.specs.Presentations.{Presentation}
 use Rattle.ve_theory.specs.Levels.{IsFinishedAt, IsOutgrown}
@@ -9,33 +9,17 @@ use Rattle.ve_formats.specs.AnswerText.{answer_text}
 use Rattle.ve_formats.specs.SummaryText.{summary_text}
 use Rattle.ve_formats.specs.OutgrownText.{outgrown_text}
 use Rattle.ve_make.specs.Symmetric.{IsMade, symmetric_presentation}
-use Rattle.ve_words.specs.Meaning.{Means}
 use Rattle.ve_words.specs.declared.command.Command.{Command}
 use Rattle.ve_words.specs.declared.command.Command.TheVariants.{Alone, Shared, Show, Check, Make}
 
--- ---- the words
-
--- answers are not checked yet
-abbrev pub IsRun : Command → Type 0
-IsRun (Alone limit summary) = Unit {0}
-IsRun (Shared workers limit summary) = Unit {0}
-IsRun Show = Unit {0}
-IsRun Check = ⊥
-IsRun (Make points node prime) = Unit {0}
-
--- the words ask for this command
-pub record Asks (words : List (List ℕ)) (command : Command) : Type 0 where
-  pub means : Means words command
-  pub runs : IsRun command
-
 -- ---- kinds of commands
 
--- the command reads a presentation
+-- the command reads a text
 abbrev pub IsReading : Command → Type 0
 IsReading (Alone limit summary) = Unit {0}
 IsReading (Shared workers limit summary) = Unit {0}
 IsReading Show = Unit {0}
-IsReading Check = ⊥
+IsReading Check = Unit {0}
 IsReading (Make points node prime) = ⊥
 
 -- the command enumerates the presented module within this limit
@@ -52,6 +36,13 @@ IsShowing (Shared workers limit summary) = ⊥
 IsShowing Show = Unit {0}
 IsShowing Check = ⊥
 IsShowing (Make points node prime) = ⊥
+
+abbrev pub IsChecking : Command → Type 0
+IsChecking (Alone limit summary) = ⊥
+IsChecking (Shared workers limit summary) = ⊥
+IsChecking Show = ⊥
+IsChecking Check = Unit {0}
+IsChecking (Make points node prime) = ⊥
 
 -- the command makes a presentation from numbers for which there is one, and from others
 abbrev pub CanMake : Command → Type 0

@@ -7,12 +7,16 @@ use Rattle.ve_port.specs.Source as Source
 use Rattle.ve_port.specs.Source.{Gives, Fails}
 use Rattle.ve_port.specs.Sink as Sink
 use Rattle.ve_port.specs.Sink.{Gains, GainsPrefix, Breaks}
-use Rattle.ve_formats.specs.Causes.{Cause}
-use Rattle.ve_formats.specs.PresentationText.{Spells, IsRefusedAt}
-use Rattle.ve_formats.specs.Messages.{refusal_message, too_long_message, no_presentation_message}
+use Rattle.ve_formats.specs.PresentationText.{Spells}
+use Rattle.ve_formats.specs.Messages.{too_long_message, no_presentation_message}
 use Rattle.ve_theory.specs.Levels.{IsFinishedAt, IsOutgrown}
+use Rattle.ve_theory.specs.Answers.{Answer}
+use Rattle.ve_theory.specs.Verdicts.{Verdict, IsVerdict}
+use Rattle.ve_words.specs.Meaning.{Means}
+use Rattle.ve_main.specs.Refusals.{IsRefused}
+use Rattle.ve_main.specs.Claims.{IsClaim, IsNoClaim, Judges, verdict_status}
 use Rattle.ve_make.specs.Symmetric.{IsMade}
-use Rattle.ve_main.specs.Commands.{Asks, IsReading, HasLimit, IsShowing, CanMake, CannotMake, Enumerates, Shows, ShowsMade}
+use Rattle.ve_main.specs.Commands.{IsReading, HasLimit, IsShowing, IsChecking, CanMake, CannotMake, Enumerates, Shows, ShowsMade}
 use Rattle.ve_main.specs.Stops.{status_of, message_of}
 use Rattle.ve_words.specs.declared.command.Command.{Command}
 use Rattle.ve_words.specs.declared.command.Command.TheVariants.{Alone, Shared, Show, Check, Make}
@@ -70,22 +74,15 @@ StopsReading old new Input = HasRisen old.count new.count × TakesFew old new
 StopsReading old new Output = ⊥
 StopsReading old new Memory = (new.count ≡ old.count) × TakesFew old new
 
--- the text is refused, and the message tells the line and the cause
-pub record IsRefused (text message : List ℕ) : Type 0 where
-  pub line : ℕ
-  pub cause : Cause
-  pub refused : IsRefusedAt text line cause
-  pub told : message ≡ refusal_message line cause
-
--- why a text gave no presentation
-abbrev pub StopsReadingText : List ℕ → Stop → Type 0
-StopsReadingText text Words = ⊥
-StopsReadingText text TooLong = ⊥
-StopsReadingText text (Refused message) = IsRefused text message.items
-StopsReadingText text NoPresentation = ⊥
-StopsReadingText text Input = ⊥
-StopsReadingText text Output = ⊥
-StopsReadingText text Memory = Unit {0}
+-- why nothing was made of a text: it is refused with a message, or memory was wanted
+abbrev pub StopsReadingText : (List ℕ → Type 0) → Stop → Type 0
+StopsReadingText Refuses Words = ⊥
+StopsReadingText Refuses TooLong = ⊥
+StopsReadingText Refuses (Refused message) = Refuses message.items
+StopsReadingText Refuses NoPresentation = ⊥
+StopsReadingText Refuses Input = ⊥
+StopsReadingText Refuses Output = ⊥
+StopsReadingText Refuses Memory = Unit {0}
 
 -- the input was taken whole, and it spells this presentation
 pub record TakesPresentation (old new : Source.Input) (P : Presentation) : Type 0 where
@@ -93,15 +90,21 @@ pub record TakesPresentation (old new : Source.Input) (P : Presentation) : Type 
   pub takes : TakesAll old new bytes
   pub spells : Spells bytes P
 
--- why there is no presentation
-abbrev pub StopsTakingPresentation : Source.Input → Source.Input → Stop → Type 0
-StopsTakingPresentation old new Words = ⊥
-StopsTakingPresentation old new TooLong = TakesTooMany old new
-StopsTakingPresentation old new (Refused message) = (bytes : List ℕ) × TakesAll old new bytes × IsRefused bytes message.items
-StopsTakingPresentation old new NoPresentation = ⊥
-StopsTakingPresentation old new Input = HasRisen old.count new.count × TakesFew old new
-StopsTakingPresentation old new Output = ⊥
-StopsTakingPresentation old new Memory = (new.count ≡ old.count) × TakesFew old new
+-- the input was taken whole, and it is a presentation's text with the answer's that is claimed for it
+pub record TakesClaim (old new : Source.Input) (P : Presentation) (A : Answer) : Type 0 where
+  pub bytes : List ℕ
+  pub takes : TakesAll old new bytes
+  pub claim : IsClaim bytes P A
+
+-- why nothing was made of the input, where some texts are refused with messages
+abbrev pub StopsTakingText : (List ℕ → List ℕ → Type 0) → Source.Input → Source.Input → Stop → Type 0
+StopsTakingText Refuses old new Words = ⊥
+StopsTakingText Refuses old new TooLong = TakesTooMany old new
+StopsTakingText Refuses old new (Refused message) = (bytes : List ℕ) × TakesAll old new bytes × Refuses bytes message.items
+StopsTakingText Refuses old new NoPresentation = ⊥
+StopsTakingText Refuses old new Input = HasRisen old.count new.count × TakesFew old new
+StopsTakingText Refuses old new Output = ⊥
+StopsTakingText Refuses old new Memory = (new.count ≡ old.count) × TakesFew old new
 
 -- a text that is called for with this status was written
 abbrev pub WritesText : (ℕ → List ℕ → Type 0) → Sink.Output → Sink.Output → ℕ → Type 0
@@ -141,8 +144,16 @@ abbrev pub Calls : Command → Source.Input → Source.Input → ℕ → List �
 Calls (Alone limit summary) old new status text = (P : Presentation) × TakesPresentation old new P × Enumerates P limit summary status text
 Calls (Shared workers limit summary) old new status text = (P : Presentation) × TakesPresentation old new P × Enumerates P limit summary status text
 Calls Show old new status text = (P : Presentation) × TakesPresentation old new P × Shows P status text
-Calls Check old new status text = ⊥
+Calls Check old new status text = (P : Presentation) × (A : Answer) × TakesClaim old new P A × Judges P A status text
 Calls (Make points node prime) old new status text = (new ≡ old) × ShowsMade points node prime status text
+
+-- which texts a command refuses, and with what message
+abbrev pub Refuses : Command → List ℕ → List ℕ → Type 0
+Refuses (Alone limit summary) text message = IsRefused text message
+Refuses (Shared workers limit summary) text message = IsRefused text message
+Refuses Show text message = IsRefused text message
+Refuses Check text message = IsNoClaim text message
+Refuses (Make points node prime) text message = ⊥
 
 -- The run wrote the whole text that the command calls for, with this status.
 abbrev pub Performs : Command → Streams → Streams → ℕ → Type 0
@@ -150,7 +161,7 @@ Performs command old new status = WritesText (Calls command old.source new.sourc
 
 pub record Finishes (words : List (List ℕ)) (old new : Streams) (status : ℕ) : Type 0 where
   pub command : Command
-  pub asks : Asks words command
+  pub asks : Means words command
   pub performs : Performs command old new status
 
 -- A part of the text that the command calls for was written, from its front.
@@ -161,8 +172,7 @@ WritesPart command old new = BeginsText (Calls command old.source new.source) ol
 abbrev pub BecauseOf : Stop → Command → Streams → Streams → Type 0
 BecauseOf Words command old new = ⊥
 BecauseOf TooLong command old new = IsReading command × TakesTooMany old.source new.source × (new.out ≡ old.out)
-BecauseOf (Refused message) command old new =
-    IsReading command × ((bytes : List ℕ) × TakesAll old.source new.source bytes × IsRefused bytes message.items) × (new.out ≡ old.out)
+BecauseOf (Refused message) command old new = ((bytes : List ℕ) × TakesAll old.source new.source bytes × Refuses command bytes message.items) × (new.out ≡ old.out)
 BecauseOf NoPresentation command old new = CannotMake command × (new ≡ old)
 BecauseOf Input command old new = IsReading command × HasRisen old.source.count new.source.count × TakesFew old.source new.source × (new.out ≡ old.out)
 BecauseOf Output command old new = WritesPart command old new × HasRisen old.out.count new.out.count
@@ -172,9 +182,9 @@ BecauseOf Memory command old new =
 -- The words ask for no command; or memory was wanted while they were read; or they ask for one that stopped for the cause.
 abbrev pub Because : Stop → List (List ℕ) → Streams → Streams → Type 0
 Because stop words old new =
-    ((stop ≡ Words) × ((command : Command) → ¬ Asks words command) × (new ≡ old))
+    ((stop ≡ Words) × ((command : Command) → ¬ Means words command) × (new ≡ old))
     ⊎ (((stop ≡ Memory) × (new ≡ old))
-    ⊎ ((command : Command) × Asks words command × BecauseOf stop command old new))
+    ⊎ ((command : Command) × Means words command × BecauseOf stop command old new))
 
 -- the message stands on the error output, or a part of it where that failed
 abbrev pub Tells : Sink.Output → Sink.Output → List ℕ → Type 0
@@ -193,16 +203,18 @@ Ends words old new err err' status = ((err' ≡ err) × Finishes words old new s
 -- What is due to a text under a command: a status, and a message for the error output.
 pub data IsDue (command : Command) (text : List ℕ) : ℕ → List ℕ → Type 0 where
   too_long : IsReading command → most_input < length text → IsDue command text 3 too_long_message
-  refused : {line : ℕ} {cause : Cause} → IsReading command → length text ≤ most_input → IsRefusedAt text line cause → IsDue command text 3 (refusal_message line cause)
+  refused : {message : List ℕ} → length text ≤ most_input → Refuses command text message → IsDue command text 3 message
   finished : {P : Presentation} {limit level : ℕ} → HasLimit command limit → length text ≤ most_input → Spells text P → IsFinishedAt P limit level → IsDue command text 0 []
   outgrown : {P : Presentation} {limit level size : ℕ} → HasLimit command limit → length text ≤ most_input → Spells text P → IsOutgrown P limit level size → IsDue command text 1 []
   shown : {P : Presentation} → IsShowing command → length text ≤ most_input → Spells text P → IsDue command text 0 []
+  checked : {P : Presentation} {A : Answer} (verdict : Verdict) → IsChecking command → length text ≤ most_input → IsClaim text P A → IsVerdict P A verdict
+      → IsDue command text (verdict_status verdict) []
   made : CanMake command → IsDue command text 0 []
   not_made : CannotMake command → IsDue command text 3 no_presentation_message
 
 -- The words ask for the command, the source tells the text where one is read, and neither the source nor the output fails.
 pub record IsServed (words : List (List ℕ)) (old new : Streams) (command : Command) (text : List ℕ) : Type 0 where
-  pub asks : Asks words command
+  pub asks : Means words command
   pub told : IsReading command → old.source.left ≡ Some text
   pub source_holds : ¬ HasRisen old.source.count new.source.count
   pub out_holds : ¬ HasRisen old.out.count new.out.count

@@ -1,4 +1,6 @@
 pub mod Commands
 pub mod Stops
+pub mod Refusals
+pub mod Claims
 pub mod Ending
 pub mod Endings

@@ -1,13 +1,14 @@
 //! The commands of the program: what they read, do and write, and the status that they end with.
 #![tactic(auto)]
 
+mod claim;
 mod enumeration;
 mod input;
 mod presentation;
 mod refusal;
 mod run;
 mod stop;
-mod text;
+mod verdict;
 mod writing;
 
 pub use run::run_alone;

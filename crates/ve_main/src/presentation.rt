@@ -2,7 +2,8 @@
 
 ghost use Rattle.std.specs.Prelude.{IfErr, IfOk};
 ghost use Rattle.ve_formats.specs.PresentationText.{Spells};
-ghost use Rattle.ve_main.specs.Ending.{StopsReadingText, StopsTakingPresentation, TakesPresentation};
+ghost use Rattle.ve_main.specs.Refusals.{IsRefused};
+ghost use Rattle.ve_main.specs.Ending.{StopsReadingText, StopsTakingText, TakesPresentation};
 
 use crate::input::read_input;
 use crate::refusal::refusal_message;
@@ -18,16 +19,16 @@ pub(crate) fn take_presentation<S: Source>(
     source: &mut S,
 ) -> Result<Presentation, Stop>
     ensures taken { IfOk result (λ draft. TakesPresentation (S.input source.old) (S.input source.new) draft.presentation) }
-    ensures stopped { IfErr result (StopsTakingPresentation (S.input source.old) (S.input source.new)) }
+    ensures stopped { IfErr result (StopsTakingText IsRefused (S.input source.old) (S.input source.new)) }
 {
     let input = read_input(alloc, source)?;
     read_presentation(alloc, &input)
 }
 
 /// The presentation that a text spells.
-fn read_presentation(alloc: Global, text: &[u8]) -> Result<Presentation, Stop>
+pub(crate) fn read_presentation(alloc: Global, text: &[u8]) -> Result<Presentation, Stop>
     ensures spelled { IfOk result (λ presentation. Spells text.now presentation.presentation) }
-    ensures stopped { IfErr result (StopsReadingText text.now) }
+    ensures stopped { IfErr result (StopsReadingText (IsRefused text.now)) }
 {
     match read(alloc, text) {
         Ok(presentation) => Ok(presentation),

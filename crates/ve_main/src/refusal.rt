@@ -1,12 +1,12 @@
 //! What is told of a refused text.
 
 ghost use Rattle.std.specs.Prelude.{◌≡◌, ◌++◌, IfOk, IfSome, decimal};
-ghost use Rattle.ve_formats.specs.Messages.{cause_text, refusal_message as message_of};
+ghost use Rattle.ve_formats.specs.Messages.{answer_refusal_message as answer_message_of, cause_text, refusal_message as message_of};
 ghost use Rattle.ve_read.specs.Refusals.{cause_of};
 
-use crate::text::{append, append_number};
 use std::alloc::Global;
 use ve_lex::LexFault;
+use ve_lines::{append, append_number};
 use ve_pres::Limit;
 use ve_read::{ReadRefusal, Why};
 use ve_word::Memory;
@@ -21,6 +21,17 @@ pub(crate) fn refusal_message(alloc: Global, refusal: &ReadRefusal) -> Result<Ve
     append(&mut message, b": ")?;
     append_why(&mut message, refusal.why)?;
     append(&mut message, b"\n")?;
+    Ok(message)
+}
+
+/// The line that tells where a text is refused as an answer.
+pub(crate) fn answer_refusal_message(alloc: Global, line: u64) -> Result<Vec<u8>, Memory>
+    ensures { IfOk result (λ message. message.items ≡ answer_message_of line) }
+{
+    let mut message = Vec::new(alloc);
+    append(&mut message, b"venum: answer line ")?;
+    append_number(&mut message, line)?;
+    append(&mut message, b": not an answer\n")?;
     Ok(message)
 }
 

@@ -1,14 +1,17 @@
-ghost use Rattle.std.specs.Prelude.{◌≡◌, ◌≤◌, ◌⊎◌, ℕ, map, string_bytes, IfErr, IfOk};
+ghost use Rattle.std.specs.Prelude.{◌≡◌, ◌≤◌, ℕ, map, string_bytes, IfErr, IfOk};
 ghost use Rattle.ve_levels.specs.Advancing.{most_limit};
-ghost use Rattle.ve_main.specs.Commands.{Asks, HasLimit, IsRun};
+ghost use Rattle.ve_main.specs.Commands.{HasLimit};
 ghost use Rattle.ve_main.specs.Ending.{Because, BecauseOf, Ends, Finishes, Performs, ServesAll};
 
+use crate::claim::take_claim;
 use crate::presentation::take_presentation;
 use crate::stop::Stop;
+use crate::verdict::write_verdict;
 use crate::writing::{write_enumeration, write_made, write_shown};
 use std::alloc::Global;
-use ve_formats::{spelled_is_valid, text_spells_once};
+use ve_formats::{answers_are_read_once, spelled_is_valid, text_spells_once};
 use ve_port::{Sink, Source};
+use ve_read::texts_are_cut_once;
 use ve_theory::uniqueness::lists_are_unique;
 use ve_words::{Command, read_words, words_mean_once};
 
@@ -34,6 +37,8 @@ pub fn run_alone<S: Source, K: Sink, E: Sink>(
 {
     text_spells_once();
     spelled_is_valid();
+    texts_are_cut_once();
+    answers_are_read_once();
     words_mean_once();
     lists_are_unique();
     match execute(alloc, words, source, out) {
@@ -59,19 +64,8 @@ fn execute<S: Source, K: Sink>(
         (record { source = S.input source.old; out = K.output out.old })
         (record { source = S.input source.new; out = K.output out.new })) }
 {
-    let command = asked_command(alloc, words)?;
+    let command = read_words(alloc, words)?;
     perform(alloc, command, source, out)
-}
-
-/// The command that the words ask for. Answers are not checked yet.
-fn asked_command(alloc: Global, words: &Vec<String>) -> Result<Command, Stop>
-    ensures asked { IfOk result (Asks (map string_bytes words.now.items)) }
-    ensures stopped { IfErr result (λ stop. ((stop ≡ Stop.Words) × ((command : Command) → ¬ Asks (map string_bytes words.now.items) command)) ⊎ (stop ≡ Stop.Memory)) }
-{
-    match read_words(alloc, words)? {
-        Command::Check => Err(Stop::Words),
-        command => Ok(command),
-    }
 }
 
 /// Performs a command. Answers the status of a run that wrote its text.
@@ -81,7 +75,6 @@ fn perform<S: Source, K: Sink>(
     source: &mut S,
     out: &mut K,
 ) -> Result<u8, Stop>
-    requires runs { IsRun command }
     requires limits { (limit : ℕ) → HasLimit command limit → limit ≤ most_limit }
     ensures finished { IfOk result (Performs command
         (record { source = S.input source.old; out = K.output out.old })
@@ -103,11 +96,14 @@ fn perform<S: Source, K: Sink>(
             let presentation = take_presentation(alloc, source)?;
             write_shown(alloc, &presentation, out)
         }
+        Command::Check => {
+            let claim = take_claim(alloc, source)?;
+            write_verdict(alloc, &claim, out)
+        }
         Command::Make {
             points,
             node,
             prime,
         } => write_made(alloc, points, node, prime, out),
-        Command::Check => unreachable!(),
     }
 }

@@ -1,7 +1,7 @@
 use Rattle.std.proofs.Common.{refl, sym, subst}
 use Rattle.ve_words.specs.declared.command.Command.TheVariants.{Alone, Shared, Show}
 use Rattle.ve_main.specs.Commands.{HasLimit}
-use Rattle.ve_main.proofs.Runs.{stopped_enumeration, stopped_show}
+use Rattle.ve_main.proofs.Runs.{stopped_enumeration, stopped_show, stopped_verdict}
 use Rattle.ve_main.proofs.run.perform.Goals as goal
 
 pub write_enumeration-requires : goal.write_enumeration-requires
@@ -24,3 +24,7 @@ returns-in_ok-presentation-in-Shared-clause-stopped g c =
 pub returns-in_ok-presentation-in-Show-clause-stopped : goal.returns-in_ok-presentation-in-Show-clause-stopped
 returns-in_ok-presentation-in-Show-clause-stopped g c =
     rw c.in-Show.is (stopped_show _ _ c.in_ok-presentation-in-Show.presentation.presentation c.in_ok-presentation-in-Show.ensures.taken _ c.write_shown.ensures.stopped)
+
+pub returns-in_ok-claim-in-Check-clause-stopped : goal.returns-in_ok-claim-in-Check-clause-stopped
+returns-in_ok-claim-in-Check-clause-stopped g c =
+    rw c.in-Check.is (stopped_verdict _ _ c.in_ok-claim-in-Check.claim.presentation.presentation _ c.in_ok-claim-in-Check.ensures.taken _ c.write_verdict.ensures.stopped)

@@ -10,6 +10,10 @@ returns-in-Ok-clause-serves g c command text due message served is_due =
       same_refusal = c.text_spells_once.ensures.same_refusal;
       never_both_readings = c.text_spells_once.ensures.never_both;
       valid = λ text P spells. (c.spelled_is_valid.ensures text P spells).presentation;
+      same_place = c.texts_are_cut_once.ensures;
+      same_answer = c.answers_are_read_once.ensures.same_answer;
+      same_line = c.answers_are_read_once.ensures.same_line;
+      never_both_answers = c.answers_are_read_once.ensures.never_both;
       lists = c.lists_are_unique.ensures;
       words = c.words_mean_once.ensures;
     } in
@@ -22,6 +26,10 @@ returns-in-Err-clause-serves g c command text due message served is_due =
       same_refusal = c.text_spells_once.ensures.same_refusal;
       never_both_readings = c.text_spells_once.ensures.never_both;
       valid = λ text P spells. (c.spelled_is_valid.ensures text P spells).presentation;
+      same_place = c.texts_are_cut_once.ensures;
+      same_answer = c.answers_are_read_once.ensures.same_answer;
+      same_line = c.answers_are_read_once.ensures.same_line;
+      never_both_answers = c.answers_are_read_once.ensures.never_both;
       lists = c.lists_are_unique.ensures;
       words = c.words_mean_once.ensures;
     } in
