@@ -55,7 +55,7 @@ fn is_name_part(byte: u8) -> bool
 pub(crate) fn pieces(alloc: Global, text: &[u8]) -> Result<Option<Vec<&[u8]>>, Memory>
     ensures { IfOk result (λ found. MatchOption found ((pieces : List (List ℕ)) → text.now ≢ each_after_space pieces)
         (λ pieces. (text.now ≡ each_after_space (map (λ piece. piece.now) pieces.items))
-            × All (Lacks 32) (map (λ piece. piece.now) pieces.items))) }
+        × All (Lacks 32) (map (λ piece. piece.now) pieces.items))) }
 {
     let mut pieces = Vec::new(alloc);
     let mut rest = text;

@@ -241,9 +241,9 @@ same_status P A verdict other h k =
     elim (yes_or_seven verdict) [
       | inl yes ↦ let parts = yes_parts P A verdict yes h in ap verdict_status yes ∙ sym (yes_alone P A other parts.0 parts.1 k)
       | inr seven ↦ elim (yes_or_seven other) [
-          | inl yes ↦ let parts = yes_parts P A other yes k in yes_alone P A verdict parts.0 parts.1 h ∙ sym (ap verdict_status yes)
-          | inr also ↦ seven ∙ sym also
-        ]
+        | inl yes ↦ let parts = yes_parts P A other yes k in yes_alone P A verdict parts.0 parts.1 h ∙ sym (ap verdict_status yes)
+        | inr also ↦ seven ∙ sym also
+      ]
     ]
 
 module _ (once : IsReadOnce) (command : Command) (text : List ℕ) where

@@ -22,11 +22,7 @@ const QUOTIENT: u8 = 0;
 const NO_QUOTIENT: u8 = 7;
 
 /// Checks a claim, and writes the verdict. Answers the status of the run.
-pub(crate) fn write_verdict<K: Sink>(
-    alloc: Global,
-    claim: &Claim,
-    out: &mut K,
-) -> Result<u8, Stop>
+pub(crate) fn write_verdict<K: Sink>(alloc: Global, claim: &Claim, out: &mut K) -> Result<u8, Stop>
     requires { IsAnswerValue claim.now.answer }
     ensures written { IfOk result (WritesText (Judges claim.now.presentation.presentation (answer_of claim.now.answer)) (K.output out.old) (K.output out.new)) }
     ensures stopped { IfErr result (StopsWriting (Judges claim.now.presentation.presentation (answer_of claim.now.answer)) (K.output out.old) (K.output out.new)) }

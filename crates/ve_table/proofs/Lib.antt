@@ -3,21 +3,18 @@ pub mod Listed
 pub mod LiveRows
 pub mod Setting
 pub mod InPlace
-
 -- ---- ids and their words
 pub mod Entries
 pub mod Spelling
 pub mod Comparing
 pub mod Units
 pub mod Stepping
-
 -- ---- dead ids
 pub mod Killing
 pub mod LiveIds
 pub mod AllLive
 pub mod Dropping
 pub mod Renumbering
-
 -- ---- levels
 pub mod Opening
 pub mod Producing
@@ -27,7 +24,6 @@ pub mod Growing
 pub mod Counting
 pub mod NextLevel
 pub mod Grown
-
 -- ---- a table taken apart
 pub mod ByLetter
 pub mod TakingApart

@@ -1,6 +1,6 @@
-use ve_answers::{AnswerRefusal, read_answer};
 use std::alloc::Global;
 use std::test::Fail;
+use ve_answers::{AnswerRefusal, read_answer};
 
 // The line that is refused, or 0.
 fn refused(alloc: Global, text: &str) -> Result<u64, Fail> {
@@ -11,7 +11,8 @@ fn refused(alloc: Global, text: &str) -> Result<u64, Fail> {
     }
 }
 
-const TWO_CYCLE: &str = "venum-answer 1\nprime 2\nletters x\nmodule 1\nclosed 3\ndimension 2\nbasis e1\nbasis e1*x\n\
+const TWO_CYCLE: &str =
+    "venum-answer 1\nprime 2\nletters x\nmodule 1\nclosed 3\ndimension 2\nbasis e1\nbasis e1*x\n\
     image 1 0\nletter x\nrow 0 1\nrow 1 0\nend\n";
 
 #[test]

@@ -1,5 +1,5 @@
-use ve_lex::{LexFault, Placed, Token, next_line, next_token, tokens};
 use std::test::Fail;
+use ve_lex::{LexFault, Placed, Token, next_line, next_token, tokens};
 
 macro_rules! name {
     ($text:literal, $start:literal, $end:literal) => {

@@ -1,7 +1,7 @@
 //! Which numbers have a presentation, and how large it is.
 
-use ve_make::make;
 use std::test::Fail;
+use ve_make::make;
 
 /// Points, node, prime, and how many relators and submodule relations there are; none where there is no presentation.
 const MADE: [(u64, u64, u64, Option<(u32, u32)>); 8] = [

@@ -1,5 +1,5 @@
-use ve_out::write_over;
 use std::test::Fail;
+use ve_out::write_over;
 use ve_port::{MemSink, OutFault};
 
 // The put at which the sink fails is the last, and what was put before it is the front of the text.

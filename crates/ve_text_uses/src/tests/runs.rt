@@ -1,8 +1,8 @@
 //! Runs from bytes to bytes: each row is an input, with what the streams do, and what the run leaves.
 
-use ve_main::run_alone;
 use std::alloc::Global;
 use std::test::Fail;
+use ve_main::run_alone;
 use ve_port::{MemSink, MemSource};
 use ve_word::Memory;
 

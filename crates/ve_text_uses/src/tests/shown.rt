@@ -1,10 +1,10 @@
 //! Texts with relations are shown by the commands above, which read them too.
 
-use ve_show::show;
 use std::test::Fail;
 use ve_field::Field;
 use ve_port::{MemSink, OutFault};
 use ve_pres::Presentation;
+use ve_show::show;
 
 // The put at which the sink fails is the last, and what was put before it is the front of the text.
 #[test]

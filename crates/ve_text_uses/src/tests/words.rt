@@ -1,8 +1,8 @@
 //! Words and the commands that they mean.
 
-use ve_words::{Command, WordsFault, read_words};
 use std::alloc::{AllocError, Global};
 use std::test::Fail;
+use ve_words::{Command, WordsFault, read_words};
 
 /// Words behind the program's name, and what they mean.
 const READ: [(&[&str], Result<Command, WordsFault>); 10] = [

@@ -1,8 +1,8 @@
 use super::{presentation, tokens};
-use ve_value::{ValueFault, difference_of, is_expression};
 use std::alloc::Global;
 use std::test::Fail;
 use ve_pres::{FreeAlg, Limit, Presentation};
+use ve_value::{ValueFault, difference_of, is_expression};
 
 // Relations and the terms of their differences, each a coefficient and letters.
 const ACCEPTED: [(&str, &str, &[(u8, &[u8])]); 14] = [

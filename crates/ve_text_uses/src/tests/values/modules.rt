@@ -1,8 +1,8 @@
 use super::{presentation, tokens};
-use ve_value::{ValueFault, is_module_expression, module_difference_of};
 use std::alloc::Global;
 use std::test::Fail;
 use ve_pres::{FreeMod, Presentation};
+use ve_value::{ValueFault, is_module_expression, module_difference_of};
 
 // Submodule relations and the terms of their differences, each a coefficient, a generator and letters.
 const ACCEPTED: [(&str, &str, &[(u8, u8, &[u8])]); 9] = [
