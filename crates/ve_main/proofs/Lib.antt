@@ -2,3 +2,4 @@ pub mod Endings
 pub mod Reading
 pub mod Texts
 pub mod Runs
+pub mod Verdicts

@@ -6,9 +6,11 @@ use Rattle.ve_port.specs.Count.{HasRisen}
 use Rattle.ve_main.specs.declared.stop.Stop.{Stop}
 use Rattle.ve_main.specs.declared.stop.Stop.TheVariants.{Words, TooLong, Refused, NoPresentation, Input as Source, Output, Memory}
 use Rattle.ve_theory.specs.Presentations.{Presentation}
+use Rattle.ve_theory.specs.Answers.{Answer}
 use Rattle.ve_formats.specs.PresentationText.{Spells}
+use Rattle.ve_formats.specs.AnswerReading.{ShowsAnswer}
 use Rattle.ve_main.specs.Refusals.{IsRefused}
-use Rattle.ve_main.specs.Claims.{IsCut, IsNoAnswer, IsNoClaim, no_presentation, no_answer}
+use Rattle.ve_main.specs.Claims.{IsClaim, IsCut, IsNoAnswer, IsNoClaim, no_presentation, no_answer}
 use Rattle.ve_main.specs.Ending.{StopsTaking, StopsReading, StopsReadingText, StopsTakingText, TakesFew, TakesAll}
 use Rattle.ve_port.specs.Source.{Input, Gives, Fails, Gives-nil, Gives-append}
 
@@ -76,9 +78,21 @@ stops_otherwise Refuses Others further Source h = h
 stops_otherwise Refuses Others further Output h = h
 stops_otherwise Refuses Others further Memory h = h
 
-pub stops_in_front : (text : List ℕ) (at : ℕ) → IsCut text at → (stop : Stop) → StopsReadingText (IsRefused (take at text)) stop → StopsReadingText (IsNoClaim text) stop
-stops_in_front text at cut = stops_otherwise (IsRefused (take at text)) (IsNoClaim text) (λ message r. no_presentation cut r)
+pub stops_in_front : (text front : List ℕ) (at : ℕ) → IsCut text at → front ≡ take at text → (stop : Stop) → StopsReadingText (IsRefused front) stop → StopsReadingText (IsNoClaim text) stop
+stops_in_front text front at cut is =
+    stops_otherwise (IsRefused front) (IsNoClaim text) (λ message r. no_presentation cut (subst (λ t. IsRefused t message) is r))
 
-pub stops_behind : (text : List ℕ) (at : ℕ) (P : Presentation) → IsCut text at → Spells (take at text) P → (stop : Stop) → StopsReadingText (IsNoAnswer (drop at text)) stop
-    → StopsReadingText (IsNoClaim text) stop
-stops_behind text at P cut spells = stops_otherwise (IsNoAnswer (drop at text)) (IsNoClaim text) (λ message r. no_answer cut spells r)
+pub stops_behind : (text front behind : List ℕ) (at : ℕ) (P : Presentation) → IsCut text at → front ≡ take at text → behind ≡ drop at text → Spells front P
+    → (stop : Stop) → StopsReadingText (IsNoAnswer behind) stop → StopsReadingText (IsNoClaim text) stop
+stops_behind text front behind at P cut is also spells =
+    stops_otherwise (IsNoAnswer behind) (IsNoClaim text)
+    (λ message r. no_answer cut (subst (λ t. Spells t P) is spells) (subst (λ t. IsNoAnswer t message) also r))
+
+pub is_claim : (text front behind : List ℕ) (at : ℕ) (P : Presentation) (A : Answer) → IsCut text at → front ≡ take at text → behind ≡ drop at text → Spells front P
+    → ShowsAnswer behind A → IsClaim text P A
+is_claim text front behind at P A cut is also spells shows = record {
+  at = at;
+  cut = cut;
+  spells = subst (λ t. Spells t P) is spells;
+  shows = subst (λ t. ShowsAnswer t A) also shows;
+}

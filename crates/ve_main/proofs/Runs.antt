@@ -27,7 +27,7 @@ use Rattle.ve_main.specs.Commands.{IsReading, HasLimit, IsShowing, IsChecking, C
 use Rattle.ve_main.specs.Stops.{status_of, message_of, stop_of_words}
 use Rattle.ve_main.specs.Refusals.{IsRefused}
 use Rattle.ve_main.specs.Claims.{IsClaim, IsCut, IsNoAnswer, IsNoClaim, no_presentation, no_answer, Judges, verdict_status}
-use Rattle.ve_main.specs.Ending.{most_input, TakesAll, TakesTooMany, TakesClaim, TakesPresentation, TakesFew, Refuses, StopsWriting, Streams, Calls, Performs, Finishes, Because, BecauseOf, IsDue, too_long, refused, finished, outgrown, shown, checked, made, not_made, IsServed, Tells}
+use Rattle.ve_main.specs.Ending.{most_input, TakesAll, TakesTooMany, TakesClaim, TakesPresentation, TakesFew, Refuses, StopsTakingText, StopsWriting, Streams, Calls, Performs, Finishes, Because, BecauseOf, IsDue, too_long, refused, finished, outgrown, shown, checked, made, not_made, IsServed, Tells}
 use Rattle.ve_main.proofs.Endings.{never_both}
 use Rattle.ve_main.proofs.Reading.{few_all}
 
@@ -400,6 +400,15 @@ pub stopped_show : {X : Type 0} (old new : Streams) (P : Presentation) → Takes
 stopped_show old new P taken r h =
     IfErr-weaker r _ _ (λ stop stops. stopped_command Show (Shows P) old new (λ status text called. (P, taken, called)) taken.takes.gives.count
     (few_all old.source new.source taken.bytes taken.takes) stop stops) h
+
+pub stopped_claim : (old new : Streams) → new.out ≡ old.out → (stop : Stop) → StopsTakingText IsNoClaim old.source new.source stop → BecauseOf stop Check old new
+stopped_claim old new same Words h = h
+stopped_claim old new same TooLong h = (tt, h, same)
+stopped_claim old new same (Refused message) h = (h, same)
+stopped_claim old new same NoPresentation h = absurd h
+stopped_claim old new same Source (risen, few) = (tt, risen, few, same)
+stopped_claim old new same Output h = absurd h
+stopped_claim old new same Memory (count, few) = (count, ap (λ out. out.count) same, few, inl same)
 
 pub stopped_verdict : {X : Type 0} (old new : Streams) (P : Presentation) (A : Answer) → TakesClaim old.source new.source P A
     → (r : Result X Stop) → IfErr r (StopsWriting (Judges P A) old.out new.out) → IfErr r (λ stop. BecauseOf stop Check old new)

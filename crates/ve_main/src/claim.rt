@@ -41,9 +41,9 @@ fn read_claim(alloc: Global, text: &[u8]) -> Result<Claim, Stop>
     ensures answer { IfOk result (λ claim. IsAnswerValue claim.answer) }
     ensures stopped { IfErr result (StopsReadingText (IsNoClaim text.now)) }
 {
-    let at = split(text);
-    let presentation = read_presentation(alloc, &text[..at])?;
-    let answer = read_claimed(alloc, &text[at..])?;
+    let (front, behind) = text.split_at(split(text));
+    let presentation = read_presentation(alloc, front)?;
+    let answer = read_claimed(alloc, behind)?;
     Ok(Claim {
         presentation,
         answer,

@@ -11,7 +11,7 @@ use crate::claim::Claim;
 use crate::stop::Stop;
 use std::alloc::Global;
 use ve_check::{Verdict, WhyNot, check};
-use ve_lines::{append, append_number};
+use ve_lines::{append, append_number, put};
 use ve_port::Sink;
 use ve_word::Memory;
 
@@ -29,9 +29,7 @@ pub(crate) fn write_verdict<K: Sink>(alloc: Global, claim: &Claim, out: &mut K) 
 {
     let verdict = check(&claim.presentation, &claim.answer)?;
     let text = verdict_text(alloc, &verdict)?;
-    if out.put(&text).is_err() {
-        return Err(Stop::Output);
-    }
+    put(&text, out)?;
     Ok(match verdict {
         Verdict::Yes => QUOTIENT,
         Verdict::No(_) => NO_QUOTIENT,

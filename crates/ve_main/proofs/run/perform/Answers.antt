@@ -1,7 +1,8 @@
 use Rattle.std.proofs.Common.{refl, sym, subst}
+use Rattle.std.proofs.lemmas.Result.{err_from_is_err_and}
 use Rattle.ve_words.specs.declared.command.Command.TheVariants.{Alone, Shared, Show}
 use Rattle.ve_main.specs.Commands.{HasLimit}
-use Rattle.ve_main.proofs.Runs.{stopped_enumeration, stopped_show, stopped_verdict}
+use Rattle.ve_main.proofs.Runs.{stopped_claim, stopped_enumeration, stopped_show, stopped_verdict}
 use Rattle.ve_main.proofs.run.perform.Goals as goal
 
 pub write_enumeration-requires : goal.write_enumeration-requires
@@ -28,3 +29,8 @@ returns-in_ok-presentation-in-Show-clause-stopped g c =
 pub returns-in_ok-claim-in-Check-clause-stopped : goal.returns-in_ok-claim-in-Check-clause-stopped
 returns-in_ok-claim-in-Check-clause-stopped g c =
     rw c.in-Check.is (stopped_verdict _ _ c.in_ok-claim-in-Check.claim.presentation.presentation _ c.in_ok-claim-in-Check.ensures.taken _ c.write_verdict.ensures.stopped)
+
+pub returns-in_err-claim-in-Check-clause-stopped : goal.returns-in_err-claim-in-Check-clause-stopped
+returns-in_err-claim-in-Check-clause-stopped g c =
+    let p = err_from_is_err_and c.from_residual-in_err-claim-in-Check.result c.from_residual-in_err-claim-in-Check.ensures.1 in
+    rw (p.1, p.2, c.in-Check.is) (stopped_claim _ _ refl _ c.in_err-claim-in-Check.ensures.stopped)
