@@ -122,7 +122,7 @@ module _ (O : ActionTable) (forwards : Forwards) (rows : List (List (Option Row)
   pub ids_below : (b c : ℕ) → c < b → b < length O.words → (c < length O.words) × (reach P (word_at O c) ≤ reach P (word_at O b))
   ids_below b c less known = (omega (arith, less, known), before_reach P (word_at O c) (word_at O b) (sound.rising c b (generator 0) less known))
 
-  stand_in_up_to : (b : ℕ) → b < length O.words → All (λ t. IsIdUpTo O (word_at O b) t.0) (stand_in forwards b)
+  pub stand_in_up_to : (b : ℕ) → b < length O.words → All (λ t. IsIdUpTo O (word_at O b) t.0) (stand_in forwards b)
   stand_in_up_to b known =
       All-weaker (λ (t : ℕ × ℕ). t.0 ≤ b) (λ (t : ℕ × ℕ). IsIdUpTo O (word_at O b) t.0) (λ t le. lower t.0 le (cases_lt t.0 b)) (stand_in forwards b)
       (stands_below forwards (are_falling forwarded forwarded_sound) b)

@@ -34,6 +34,7 @@ pub mod RowsAtWork
 pub mod SettledSteps
 pub mod SharedLists
 pub mod SoundSteps
+pub mod TracedReadings
 pub mod Tracing
 pub mod UnderWay
 pub mod WhateverSeatsDo

@@ -32,7 +32,7 @@ ids_up_to O w v up_to =
     (λ t is. (is.0, not_after_reach (presented O) (word_at O t.0) w is.1)) v up_to
 
 -- differences of differences
-differences_crossed : (p : ℕ) (a b c d : Row) → SameWeights p (difference p (difference p a b) (difference p c d)) (difference p (difference p a c) (difference p b d))
+pub differences_crossed : (p : ℕ) (a b c d : Row) → SameWeights p (difference p (difference p a b) (difference p c d)) (difference p (difference p a c) (difference p b d))
 differences_crossed p a b c d = SameWeights-equal (λ h. simp (weigh-append, weigh-scaled) (omega arith))
 
 module _ (O T : ActionTable) (sound : IsSound O) (under : IsUnderWay O T) where

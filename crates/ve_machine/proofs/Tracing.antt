@@ -160,7 +160,7 @@ module _ (O T : ActionTable) (sound : IsSound O) (under : IsUnderWay O T) where
 
   -- a relator
 
-  times_all-extended : (w : Word) (r : AlgebraElement) → SameWeights p (extended (λ u. unit (times_all w u)) r) (word_times w r)
+  pub times_all-extended : (w : Word) (r : AlgebraElement) → SameWeights p (extended (λ u. unit (times_all w u)) r) (word_times w r)
   times_all-extended w r = record {
     at = λ h. ap (λ n. n % p) (weigh-extended h (λ u. unit (times_all w u)) r ∙ (ap (λ g. weigh g r) (fun_ext (λ u. weigh-unit h (times_all w u))) ∙ sym (weigh-word_times h w r)));
   }

@@ -15,3 +15,4 @@ pub mod ImageHands
 pub mod Machines
 pub mod MachineCodes
 pub mod Allowed
+pub mod Readings

@@ -6,5 +6,6 @@ pub mod finished;
 pub mod forwards;
 pub mod hands;
 pub mod quiescence;
+pub mod readings;
 pub mod seats;
 pub mod work;
