@@ -13,6 +13,3 @@ pub use free_alg::FreeAlg;
 pub use free_mod::FreeMod;
 pub use limit::{Limit, PresFault};
 pub use presentation::Presentation;
-
-#[cfg(test)]
-mod tests;

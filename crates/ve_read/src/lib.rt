@@ -12,6 +12,3 @@ mod why;
 pub use cut::{split, texts_are_cut_once};
 pub use lines::read;
 pub use why::{ReadRefusal, Why};
-
-#[cfg(test)]
-mod tests;

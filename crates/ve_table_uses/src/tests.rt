@@ -1,5 +1,8 @@
 //! Examples, from their text to what is left of their tables.
 
+mod algebra;
+mod texts;
+
 use crate::imposing::{traced_relator, traced_submodule_relation};
 use crate::{impose_relator, impose_submodule_relation};
 use std::alloc::Global;

@@ -5,10 +5,10 @@ mod cut;
 mod large;
 mod refused;
 
-use crate::read;
 use std::alloc::Global;
 use std::test::Fail;
 use ve_pres::{FreeAlg, FreeMod, Presentation};
+use ve_read::read;
 
 /// A text, and the presentation that it spells.
 struct Case {

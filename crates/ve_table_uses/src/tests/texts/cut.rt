@@ -1,6 +1,6 @@
 //! Where texts are cut.
 
-use crate::split;
+use ve_read::split;
 
 const CASES: [(&[u8], usize); 26] = [
     (b"", 0),

@@ -3,10 +3,11 @@ ghost use Rattle.ve_theory.specs.Combinations.{IsReduced};
 ghost use Rattle.ve_theory.specs.Words.{ShortlexLetters};
 
 use super::{ONE, Terms, X, X_AND_Y, ZERO, element_of, in_module, is, is_in_module};
-use crate::{FreeAlg, FreeMod, Limit, PresFault};
 use std::alloc::Global;
 use std::test::Fail;
 use ve_field::Field;
+use ve_pres::{FreeAlg, FreeMod, Limit, PresFault};
+use ve_word::Memory;
 
 // Of two elements. `Scale` and `Pow` take the first one alone.
 #[derive(Clone, Copy, Debug)]
@@ -118,6 +119,15 @@ const REFUSALS: [(Call, Terms, u32, Terms, u32, Option<Limit>); 13] = [
     ),
 ];
 
+// The same element.
+fn copied(field: &Field, element: &FreeAlg) -> Result<FreeAlg, Memory>
+    requires { IsReduced ShortlexLetters field.now element.now }
+    ensures { IfOk result (λ r. IsReduced ShortlexLetters field.now r) }
+{
+    field.has_prime();
+    element.scale(field, 1)
+}
+
 fn called(field: &Field, call: Call, left: &FreeAlg, right: &FreeAlg) -> Result<FreeAlg, PresFault>
     requires left { IsReduced ShortlexLetters field.now left.now }
     requires right { IsReduced ShortlexLetters field.now right.now }
@@ -125,7 +135,7 @@ fn called(field: &Field, call: Call, left: &FreeAlg, right: &FreeAlg) -> Result<
 {
     match call {
         Call::Add => left.add(field, right),
-        Call::Plus => left.copy()?.plus(field, right.copy()?),
+        Call::Plus => copied(field, left)?.plus(field, copied(field, right)?),
         Call::Mul => left.mul(field, right),
         Call::Scale(by) => Ok(left.scale(field, field.reduce(u128::from(by)))?),
         Call::Pow(exponent) => left.pow(field, exponent.min(1000)),

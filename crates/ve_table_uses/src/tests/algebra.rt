@@ -6,9 +6,9 @@ ghost use Rattle.ve_pres.specs.Terms.{HasLettersBelow, HasWordsBelow};
 mod elements;
 mod presentations;
 
-use crate::{FreeAlg, FreeMod, PresFault};
 use std::alloc::Global;
 use ve_field::Field;
+use ve_pres::{FreeAlg, FreeMod, PresFault};
 
 // Coefficients, each with its letters.
 type Terms = &'static [(u8, &'static [u8])];

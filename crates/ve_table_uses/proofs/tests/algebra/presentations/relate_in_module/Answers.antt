@@ -1,6 +1,6 @@
 use Rattle.std.proofs.Common.{ℕ, length, ap, ◌∙◌, subst}
 use Rattle.ve_pres.specs.Terms.{HasLettersBelow}
-use Rattle.ve_pres.proofs.tests.presentations.relate_in_module.Goals as goal
+use Rattle.ve_table_uses.proofs.tests.algebra.presentations.relate_in_module.Goals as goal
 
 pub add_sub-requires-clause-words : goal.add_sub-requires-clause-words
 add_sub-requires-clause-words c =

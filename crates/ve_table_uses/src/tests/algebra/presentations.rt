@@ -6,10 +6,10 @@ ghost use Rattle.ve_pres.specs.Terms.{HasLettersBelow};
 
 use super::elements::limit_of;
 use super::{ONE, Terms, X, X_AND_Y, ZERO, element_of, in_module, is, is_in_module};
-use crate::{FreeAlg, Limit, PresFault, Presentation};
 use std::alloc::Global;
 use std::test::Fail;
 use ve_field::Field;
+use ve_pres::{FreeAlg, Limit, PresFault, Presentation};
 use ve_word::NameFault;
 
 // Tries to add letters. Those that stand are x with the inverse X, then a and b, which are their own inverses, and c.
