@@ -239,9 +239,9 @@ yes_parts P A verdict is h = subst (IsVerdict P A) is h
 same_status : (P : Presentation) (A : Answer) (verdict other : Verdict) → IsVerdict P A verdict → IsVerdict P A other → verdict_status verdict ≡ verdict_status other
 same_status P A verdict other h k =
     elim (yes_or_seven verdict) [
-      | inl yes ↦ let parts = yes_parts P A verdict yes h in ap verdict_status yes ∙ sym (yes_alone P A other parts.0 parts.1 k)
+      | inl is ↦ let parts = yes_parts P A verdict is h in ap verdict_status is ∙ sym (yes_alone P A other parts.0 parts.1 k)
       | inr seven ↦ elim (yes_or_seven other) [
-        | inl yes ↦ let parts = yes_parts P A other yes k in yes_alone P A verdict parts.0 parts.1 h ∙ sym (ap verdict_status yes)
+        | inl is ↦ let parts = yes_parts P A other is k in yes_alone P A verdict parts.0 parts.1 h ∙ sym (ap verdict_status is)
         | inr also ↦ seven ∙ sym also
       ]
     ]
