@@ -63,7 +63,7 @@ impl DenseSum {
         ensures { IfOk result (λ v. IsReducedOf ◌<◌ nat_eq field.now v self.total) }
     {
         let terms = collect_terms(*self.numbers.allocator(), field, self.low, &self.numbers)?;
-        Ok(Sparse::from_terms(terms))
+        Sparse::from_list(terms)
     }
 }
 

@@ -4,21 +4,16 @@ ghost use Rattle.ve_vec.specs.Terms.{pairs};
 
 use crate::Term;
 use crate::search::count_above;
-use smallvec::SmallVec;
+use crate::terms::Terms;
 use ve_field::Field;
 use ve_word::Memory;
 
 /// Adds a coefficient at an id, in place.
-pub(crate) fn insert_term(
-    terms: &mut SmallVec<Term, 4>,
-    field: &Field,
-    id: u32,
-    coef: u8,
-) -> Result<(), Memory>
-    requires terms { IsReduced ◌<◌ field.now (pairs terms.old.items) }
+pub(crate) fn insert_term(terms: &mut Terms, field: &Field, id: u32, coef: u8) -> Result<(), Memory>
+    requires terms { IsReduced ◌<◌ field.now (pairs terms.old) }
     requires nonzero { 0 < coef }
     requires residue { coef < field.now }
-    ensures ok { OnOk result (IsReducedOf ◌<◌ nat_eq field.now (pairs terms.new.items) (pairs terms.old.items ++ (id, coef) ∷ [])) }
+    ensures ok { OnOk result (IsReducedOf ◌<◌ nat_eq field.now (pairs terms.new) (pairs terms.old ++ (id, coef) ∷ [])) }
     ensures err { OnErr result (terms.new ≡ terms.old) }
 {
     let at = count_above(terms.as_slice(), id);
@@ -31,7 +26,7 @@ pub(crate) fn insert_term(
         terms.remove(at);
         return Ok(());
     }
-    terms.as_mut_slice()[at] = Term { id, coef: sum };
+    terms.set(at, Term { id, coef: sum });
     Ok(())
 }
 

@@ -2,6 +2,7 @@
 #![tactic(auto)]
 
 mod dense;
+mod few;
 mod insert;
 mod merge;
 mod number;
@@ -9,6 +10,7 @@ mod rows;
 mod search;
 mod sparse;
 mod term;
+mod terms;
 
 pub use dense::DenseSum;
 pub use rows::Rows;

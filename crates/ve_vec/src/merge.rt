@@ -7,7 +7,7 @@ use smallvec::SmallVec;
 use ve_field::Field;
 use ve_word::Memory;
 
-/// How many terms take no memory.
+/// How many terms a list holds without room of its own.
 const FEW: usize = 4;
 
 /// Whether each id of `others` is below each of `terms`.

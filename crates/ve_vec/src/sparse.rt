@@ -5,19 +5,19 @@ ghost use Rattle.ve_vec.specs.Vectors.{AllIds, IsVector, numbered, without};
 
 use crate::Term;
 use crate::insert::insert_term;
-use crate::merge::{append_scaled, append_sum, comes_before, scale_terms};
-use crate::number::number_terms;
+use crate::merge::{append_sum, comes_before};
 use crate::search::{split_around, split_at_id};
+use crate::terms::Terms;
 use smallvec::SmallVec;
 use std::alloc::Global;
 use std::marker::Model;
 use ve_field::Field;
 use ve_word::Memory;
 
-/// A vector as the terms of its nonzero coefficients, by falling id. Up to four terms take no memory.
+/// A vector as the terms of its nonzero coefficients, by falling id. Up to two terms take no memory.
 #[derive(Drop)]
 pub struct Sparse {
-    terms: SmallVec<Term, 4>,
+    terms: Terms,
 }
 
 impl Model for Sparse {
@@ -29,9 +29,9 @@ impl Model for Sparse {
     ghost use Rattle.ve_vec.specs.Terms.{pairs};
     ghost use Rattle.ve_vec.specs.Vectors.{IsVector};
 
-    ghost view = { λ v. pairs v.terms.items };
+    ghost view = { λ v. pairs v.terms };
 
-    ghost invariant = { λ v. IsVector (pairs v.terms.items) };
+    ghost invariant = { λ v. IsVector (pairs v.terms) };
 }
 
 impl Sparse {
@@ -41,7 +41,7 @@ impl Sparse {
         ensures fits { (p : ℕ) → IsReduced ◌<◌ p result }
     {
         Sparse {
-            terms: SmallVec::new(alloc),
+            terms: Terms::new(alloc),
         }
     }
 
@@ -50,17 +50,18 @@ impl Sparse {
         ensures value { result ≡ unit id }
         ensures fits { (p : ℕ) → 1 < p → IsReduced ◌<◌ p result }
     {
-        let mut terms = SmallVec::new(alloc);
-        terms.push_reserved(Term { id, coef: 1 });
-        Sparse { terms }
+        Sparse {
+            terms: Terms::one(alloc, Term { id, coef: 1 }),
+        }
     }
 
     /// The vector of these terms.
-    pub(crate) fn from_terms(terms: SmallVec<Term, 4>) -> Sparse
-        requires { IsVector (pairs terms.items) }
-        ensures { result ≡ pairs terms.items }
+    pub(crate) fn from_list(list: SmallVec<Term, 4>) -> Result<Sparse, Memory>
+        requires { IsVector (pairs list.items) }
+        ensures { IfOk result (λ v. v ≡ pairs list.items) }
     {
-        Sparse { terms }
+        let terms = Terms::from_list(list)?;
+        Ok(Sparse { terms })
     }
 
     /// Whether each coefficient is a residue of the field.
@@ -75,7 +76,7 @@ impl Sparse {
     pub fn len(&self) -> usize
         ensures { result ≡ length self.now }
     {
-        self.terms.len()
+        self.terms.as_slice().len()
     }
 
     /// The terms, by falling id.
@@ -109,7 +110,7 @@ impl Sparse {
         ensures same { IsNone result → self.new ≡ self.old }
         ensures first { IfSome result (λ t. self.old ≡ (t.id, t.coef) ∷ self.new) }
     {
-        if self.terms.is_empty() {
+        if self.terms.as_slice().is_empty() {
             return None;
         }
         Some(self.terms.remove(0))
@@ -134,17 +135,17 @@ impl Sparse {
         ensures same_ids { 0 < by → map (λ t. t.0) self.new ≡ map (λ t. t.0) self.old }
     {
         if by == 0 {
-            self.terms.clear();
+            self.terms = Terms::new(self.terms.allocator());
             return;
         }
-        scale_terms(self.terms.as_mut_slice(), field, by);
+        self.terms.scale(field, by);
     }
 
     /// The same vector once more.
     pub fn copy(&self) -> Result<Sparse, Memory>
         ensures { IfOk result (λ v. v ≡ self.now) }
     {
-        let terms = SmallVec::from_slice(*self.terms.allocator(), self.terms.as_slice())?;
+        let terms = Terms::from_slice(self.terms.allocator(), self.terms.as_slice())?;
         Ok(Sparse { terms })
     }
 
@@ -154,7 +155,7 @@ impl Sparse {
         ensures rest { IfOk result (λ v. v ≡ drop from self.now) }
         ensures fits { IfOk result (λ v. (p : ℕ) → IsReduced ◌<◌ p self.now → IsReduced ◌<◌ p v) }
     {
-        let terms = SmallVec::from_slice(*self.terms.allocator(), &self.terms.as_slice()[from..])?;
+        let terms = Terms::from_slice(self.terms.allocator(), &self.terms.as_slice()[from..])?;
         Ok(Sparse { terms })
     }
 
@@ -173,22 +174,22 @@ impl Sparse {
         if by == 0 || others.is_empty() {
             return Ok(());
         }
-        if comes_before(self.terms.as_slice(), others) {
-            append_scaled(&mut self.terms, field, by, others)?;
-            return Ok(());
-        }
         // A term finds its place without a new list.
         if let [term] = others {
             insert_term(&mut self.terms, field, term.id, field.mul(by, term.coef))?;
             return Ok(());
         }
-        let mut sum = SmallVec::new(*self.terms.allocator());
+        if comes_before(self.terms.as_slice(), others) {
+            self.terms.append_scaled(field, by, others)?;
+            return Ok(());
+        }
+        let mut sum = SmallVec::new(self.terms.allocator());
         append_sum(&mut sum, field, by, self.terms.as_slice(), others)?;
-        self.terms = sum;
+        self.terms = Terms::from_list(sum)?;
         Ok(())
     }
 
-    /// Adds `by` times a term. Up to four terms take no memory.
+    /// Adds `by` times a term. Up to two terms take no memory.
     pub fn add_scaled_term(&mut self, field: &Field, by: u8, term: Term) -> Result<(), Memory>
         requires fits { IsReduced ◌<◌ field.now self.old }
         requires term { term.coef < field.now }
@@ -218,10 +219,10 @@ impl Sparse {
             return Ok(());
         };
         let (higher, lower) = split_at_id(by.terms.as_slice(), dead);
-        let mut sum = SmallVec::new(*self.terms.allocator());
+        let mut sum = SmallVec::new(self.terms.allocator());
         append_sum(&mut sum, field, coef, above, higher)?;
         append_sum(&mut sum, field, coef, below, lower)?;
-        self.terms = sum;
+        self.terms = Terms::from_list(sum)?;
         Ok(())
     }
 
@@ -231,7 +232,7 @@ impl Sparse {
         requires order { IsVector (numbered numbers.now self.old) }
         ensures { self.new ≡ numbered numbers.now self.old }
     {
-        number_terms(self.terms.as_mut_slice(), numbers);
+        self.terms.renumber(numbers);
     }
 }
 

@@ -12,13 +12,13 @@ pairs_of_rest n xs items all v copied same view = ap pairs (copied ∙ take_rest
 pub invariant_of-result : goal.invariant_of-result
 invariant_of-result c = (
   c.self.invariant.0,
-  rw (pairs_of_rest c.args.from _ _ _ _ c.in_ok-terms.ensures.ok c.as_slice.ensures c.self.view_is)
+  rw (pairs_of_rest c.args.from _ _ _ _ c.in_ok-terms.ensures c.as_slice.ensures c.self.view_is)
       (IsReduced-drop c.self.invariant.0 c.args.from _ (rw c.self.view_is at c.self.invariant.1)),
 )
 
 pub returns-clause-rest : goal.returns-clause-rest
-returns-clause-rest c = pairs_of_rest c.args.from _ _ _ _ c.in_ok-terms.ensures.ok c.as_slice.ensures c.self.view_is
+returns-clause-rest c = pairs_of_rest c.args.from _ _ _ _ c.in_ok-terms.ensures c.as_slice.ensures c.self.view_is
 
 pub returns-clause-fits : goal.returns-clause-fits
 returns-clause-fits c p reduced =
-    rw (pairs_of_rest c.args.from _ _ _ _ c.in_ok-terms.ensures.ok c.as_slice.ensures c.self.view_is) (IsReduced-drop p c.args.from _ reduced)
+    rw (pairs_of_rest c.args.from _ _ _ _ c.in_ok-terms.ensures c.as_slice.ensures c.self.view_is) (IsReduced-drop p c.args.from _ reduced)

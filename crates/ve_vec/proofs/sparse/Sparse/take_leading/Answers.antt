@@ -11,4 +11,4 @@ IsReduced-rest p [] new new_is reduced = rw new_is reduced
 IsReduced-rest p (x ∷ items) new new_is reduced = rw new_is reduced.3
 
 pub invariant_of-self : goal.invariant_of-self
-invariant_of-self c = (c.self.invariant.0, IsReduced-rest _ _ _ c.remove.ensures.items c.self.invariant.1)
+invariant_of-self c = (c.self.invariant.0, IsReduced-rest _ _ _ c.remove.ensures.terms c.self.invariant.1)

@@ -4,8 +4,8 @@ use Rattle.ve_vec.proofs.sparse.Sparse.unit.Goals as goal
 
 pub invariant_of-result : goal.invariant_of-result
 unfolding AllBefore IsReduced
-invariant_of-result c = rw (c.push_reserved.ensures.items, c.new-terms.ensures.items) (2, (omega arith, omega arith, tt, tt))
+invariant_of-result c = rw c.one.ensures (2, (omega arith, omega arith, tt, tt))
 
 pub returns-clause-fits : goal.returns-clause-fits
 unfolding AllBefore IsReduced
-returns-clause-fits c = rw (c.push_reserved.ensures.items, c.new-terms.ensures.items) (λ p large. (omega arith, large, tt, tt))
+returns-clause-fits c = rw c.one.ensures (λ p large. (omega arith, large, tt, tt))
