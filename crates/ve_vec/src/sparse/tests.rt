@@ -1,42 +1,180 @@
-ghost use Rattle.std.specs.Prelude.{◌≡◌, ◌<◌, IfOk, length};
+ghost use Rattle.std.specs.Prelude.{◌<◌, IfOk, length};
 ghost use Rattle.ve_theory.specs.Combinations.{IsReduced};
 
 use super::*;
 use crate::{DenseSum, Rows};
 use std::test::Fail;
 
-/// The vector of two terms.
-fn pair(alloc: Global, field: &Field, first: Term, second: Term) -> Result<Sparse, Memory>
-    requires large { 1 < field.now }
-    requires first { first.coef < field.now }
-    requires second { second.coef < field.now }
-    ensures { IfOk result (λ v. IsReduced ◌<◌ field.now v) }
-{
-    let mut v = Sparse::unit(alloc, first.id);
-    v.scale(field, first.coef);
-    let unit = Sparse::unit(alloc, second.id);
-    v.add_scaled(field, second.coef, &unit)?;
-    Ok(v)
+/// Terms, each an id and a coefficient, by falling id.
+type Listed = &'static [(u32, u8)];
+
+/// A call on a vector, and the terms that it has to leave.
+enum Step {
+    /// `add_scaled` of a number and a vector.
+    Add(u8, Listed, Listed),
+    /// `add_scaled_term` of a number and a term.
+    AddTerm(u8, (u32, u8), Listed),
+    Substitute(u32, Listed, Listed),
+    Scale(u8, Listed),
+    Copy(Listed),
+    Rest(usize, Listed),
+    TakeLeading(Listed),
 }
 
-/// The vector with the coefficient 1 at each id below `count`.
-fn ladder(alloc: Global, field: &Field, count: u32) -> Result<Sparse, Memory>
-    requires large { 1 < field.now }
-    ensures { IfOk result (λ v. IsReduced ◌<◌ field.now v) }
-{
+// One step after another on the zero vector, modulo 5.
+const STEPS: [Step; 34] = [
+    // Up to two terms and back.
+    Step::AddTerm(1, (3, 1), &[(3, 1)]),
+    Step::AddTerm(2, (3, 2), &[]),
+    Step::AddTerm(3, (3, 2), &[(3, 1)]),
+    Step::AddTerm(1, (5, 2), &[(5, 2), (3, 1)]),
+    Step::AddTerm(3, (3, 1), &[(5, 2), (3, 4)]),
+    Step::AddTerm(1, (5, 3), &[(3, 4)]),
+    Step::Add(1, &[(1, 1)], &[(3, 4), (1, 1)]),
+    Step::AddTerm(1, (1, 4), &[(3, 4)]),
+    Step::AddTerm(1, (6, 1), &[(6, 1), (3, 4)]),
+    // The third term stands between the others.
+    Step::AddTerm(2, (5, 1), &[(6, 1), (5, 2), (3, 4)]),
+    Step::AddTerm(1, (5, 1), &[(6, 1), (5, 3), (3, 4)]),
+    Step::AddTerm(1, (0, 1), &[(6, 1), (5, 3), (3, 4), (0, 1)]),
+    Step::AddTerm(1, (7, 2), &[(7, 2), (6, 1), (5, 3), (3, 4), (0, 1)]),
+    Step::Scale(2, &[(7, 4), (6, 2), (5, 1), (3, 3), (0, 2)]),
+    Step::Add(1, &[(7, 1), (6, 3), (3, 2)], &[(5, 1), (0, 2)]),
+    Step::Scale(3, &[(5, 3), (0, 1)]),
+    Step::Copy(&[(5, 3), (0, 1)]),
+    Step::Add(2, &[(4, 1)], &[(5, 3), (4, 2), (0, 1)]),
+    Step::Copy(&[(5, 3), (4, 2), (0, 1)]),
+    Step::TakeLeading(&[(4, 2), (0, 1)]),
+    Step::TakeLeading(&[(0, 1)]),
+    Step::Add(1, &[(0, 4)], &[]),
+    Step::TakeLeading(&[]),
+    Step::Add(2, &[(5, 1), (4, 2), (2, 3)], &[(5, 2), (4, 4), (2, 1)]),
+    Step::Rest(1, &[(4, 4), (2, 1)]),
+    Step::Add(1, &[(1, 1), (0, 1)], &[(4, 4), (2, 1), (1, 1), (0, 1)]),
+    Step::Rest(0, &[(4, 4), (2, 1), (1, 1), (0, 1)]),
+    // The dead id itself stands in what replaces it.
+    Step::Substitute(
+        2,
+        &[(3, 1), (2, 1)],
+        &[(4, 4), (3, 1), (2, 1), (1, 1), (0, 1)],
+    ),
+    Step::Substitute(3, &[(4, 1), (2, 4), (1, 4)], &[(0, 1)]),
+    Step::Substitute(3, &[(4, 1)], &[(0, 1)]),
+    Step::Substitute(0, &[(9, 2), (8, 1)], &[(9, 2), (8, 1)]),
+    Step::Substitute(8, &[(6, 1), (5, 1)], &[(9, 2), (6, 1), (5, 1)]),
+    Step::Substitute(9, &[(6, 2)], &[(5, 1)]),
+    Step::Scale(0, &[]),
+];
+
+#[test]
+fn goes_step_by_step(rt: HostRuntime) -> Result<(), Fail> {
+    let alloc = rt.alloc();
+    let field = five()?;
     let mut v = Sparse::zero(alloc);
-    for id in 0..count {
-        let unit = Sparse::unit(alloc, id);
-        v.add_scaled(field, 1, &unit)?;
+    for (at, step) in STEPS.iter().enumerate() {
+        assert!(rt; passes(alloc, &field, &mut v, step)?, "at {at}");
     }
-    Ok(v)
+    Ok(())
 }
 
-fn term(id: u32, coef: u8) -> Term
-    ensures id { result.id ≡ id }
-    ensures coef { result.coef ≡ coef }
+fn five() -> Result<Field, Memory> {
+    Field::new(5).ok_or(Memory)
+}
+
+fn passes(alloc: Global, field: &Field, v: &mut Sparse, step: &Step) -> Result<bool, Memory> {
+    if !v.fits(field) {
+        return Ok(false);
+    }
+    match step {
+        Step::Add(by, other, wanted) => adds(alloc, field, v, *by, other, wanted),
+        Step::AddTerm(by, term, wanted) => adds_term(field, v, *by, *term, wanted),
+        Step::Substitute(dead, by, wanted) => substitutes(alloc, field, v, *dead, by, wanted),
+        Step::Scale(by, wanted) => {
+            v.scale(field, field.reduce(u128::from(*by)));
+            Ok(is_vector(v, wanted))
+        }
+        Step::Copy(wanted) => Ok(is_vector(&v.copy()?, wanted)),
+        Step::Rest(from, wanted) => keeps_rest(v, *from, wanted),
+        Step::TakeLeading(wanted) => {
+            let leading = v.leading();
+            Ok(v.take_leading() == leading && is_vector(v, wanted))
+        }
+    }
+}
+
+fn adds(
+    alloc: Global,
+    field: &Field,
+    v: &mut Sparse,
+    by: u8,
+    other: &[(u32, u8)],
+    wanted: &[(u32, u8)],
+) -> Result<bool, Memory>
+    requires { IsReduced ◌<◌ field.now v.old }
 {
-    Term { id, coef }
+    let other = vector_of(alloc, field, other)?;
+    v.add_scaled(field, field.reduce(u128::from(by)), &other)?;
+    Ok(is_vector(v, wanted))
+}
+
+fn adds_term(
+    field: &Field,
+    v: &mut Sparse,
+    by: u8,
+    term: (u32, u8),
+    wanted: &[(u32, u8)],
+) -> Result<bool, Memory>
+    requires { IsReduced ◌<◌ field.now v.old }
+{
+    let by = field.reduce(u128::from(by));
+    v.add_scaled_term(field, by, term_of(field, term))?;
+    Ok(is_vector(v, wanted))
+}
+
+fn substitutes(
+    alloc: Global,
+    field: &Field,
+    v: &mut Sparse,
+    dead: u32,
+    by: &[(u32, u8)],
+    wanted: &[(u32, u8)],
+) -> Result<bool, Memory>
+    requires { IsReduced ◌<◌ field.now v.old }
+{
+    let by = vector_of(alloc, field, by)?;
+    v.substitute(field, dead, &by)?;
+    Ok(is_vector(v, wanted))
+}
+
+fn keeps_rest(v: &mut Sparse, from: usize, wanted: &[(u32, u8)]) -> Result<bool, Memory> {
+    if from > v.len() {
+        return Ok(false);
+    }
+    *v = v.rest(from)?;
+    Ok(is_vector(v, wanted))
+}
+
+/// The sum of the terms.
+fn vector_of(alloc: Global, field: &Field, terms: &[(u32, u8)]) -> Result<Sparse, Memory>
+    ensures { IfOk result (λ v. IsReduced ◌<◌ field.now v) }
+{
+    field.has_prime();
+    let mut sum = Sparse::zero(alloc);
+    for term in terms {
+        sum.add_scaled_term(field, 1, term_of(field, *term))?;
+    }
+    Ok(sum)
+}
+
+/// The term, with its coefficient reduced.
+fn term_of(field: &Field, term: (u32, u8)) -> Term
+    ensures { result.coef < field.now }
+{
+    let (id, coef) = term;
+    Term {
+        id,
+        coef: field.reduce(u128::from(coef)),
+    }
 }
 
 fn is_vector(v: &Sparse, terms: &[(u32, u8)]) -> bool {
@@ -45,152 +183,34 @@ fn is_vector(v: &Sparse, terms: &[(u32, u8)]) -> bool {
     }
     for at in 0..v.len() {
         let (id, coef) = terms[at];
-        if v.term(at) != (Term { id, coef }) {
+        if v.term(at) != (Term { id, coef }) || v.coef_of(id) != coef {
             return false;
         }
     }
     true
 }
 
-// The tests below compute modulo 5, with terms written (id, coefficient).
-
-#[test]
-fn adds_a_multiple(rt: HostRuntime) -> Result<(), Fail> {
-    let alloc = rt.alloc();
-    let Some(field) = Field::new(5) else {
-        panic!(rt; "5 is a prime");
-    };
-    let mut v = pair(alloc, &field, term(7, 2), term(3, 1))?;
-    let other = pair(alloc, &field, term(7, 1), term(2, 4))?;
-    v.add_scaled(&field, 3, &other)?;
-    assert!(rt; is_vector(&v, &[(3, 1), (2, 2)]));
-    assert_eq!(rt; v.leading(), Some(term(3, 1)));
-    assert_eq!(rt; (v.coef_of(2), v.coef_of(7)), (2, 0));
-    Ok(())
-}
-
 #[test]
 fn sums_over_a_span(rt: HostRuntime) -> Result<(), Fail> {
     let alloc = rt.alloc();
-    let Some(field) = Field::new(5) else {
-        panic!(rt; "5 is a prime");
-    };
-    let first = Sparse::unit(alloc, 3);
-    let second = Sparse::unit(alloc, 7);
+    let field = five()?;
+    assert!(rt;
+        is_vector(
+            &sum_of_units(alloc, &field, [2, 4, 3])?,
+            &[(7, 3), (5, 4), (3, 2)]
+        )
+    );
+    assert!(rt; is_vector(&sum_of_units(alloc, &field, [0, 9, 5])?, &[(5, 4)]));
+    Ok(())
+}
+
+/// The sum of the units at 3, 5 and 7, each times a number.
+fn sum_of_units(alloc: Global, field: &Field, by: [u8; 3]) -> Result<Sparse, Memory> {
     let mut sum = DenseSum::new(alloc, 2, 7)?;
-    sum.add_scaled(&field, 2, &first);
-    sum.add_scaled(&field, 4, &second);
-    sum.add_scaled(&field, 3, &first);
-    let sum = sum.into_sparse(&field)?;
-    assert!(rt; is_vector(&sum, &[(7, 4)]));
-    Ok(())
-}
-
-#[test]
-fn adds_terms_in_place(rt: HostRuntime) -> Result<(), Fail> {
-    let alloc = rt.alloc();
-    let Some(field) = Field::new(5) else {
-        panic!(rt; "5 is a prime");
-    };
-    let mut v = pair(alloc, &field, term(7, 2), term(3, 1))?;
-    v.add_scaled_term(&field, 3, term(7, 1))?;
-    v.add_scaled_term(&field, 2, term(4, 3))?;
-    assert_eq!(rt; v.terms(), [term(4, 1), term(3, 1)].as_slice());
-    Ok(())
-}
-
-#[test]
-fn substitutes_and_scales(rt: HostRuntime) -> Result<(), Fail> {
-    let alloc = rt.alloc();
-    let Some(field) = Field::new(5) else {
-        panic!(rt; "5 is a prime");
-    };
-    let mut v = pair(alloc, &field, term(3, 1), term(2, 2))?;
-    let by = pair(alloc, &field, term(2, 3), term(0, 1))?;
-    v.substitute(&field, 3, &by)?;
-    assert!(rt; is_vector(&v, &[(0, 1)]));
-    v.scale(&field, 0);
-    assert!(rt; is_vector(&v, &[]));
-    assert_eq!(rt; v.leading(), None);
-    Ok(())
-}
-
-#[test]
-fn substitutes_in_a_copy(rt: HostRuntime) -> Result<(), Fail> {
-    let alloc = rt.alloc();
-    let Some(field) = Field::new(5) else {
-        panic!(rt; "5 is a prime");
-    };
-    let v = pair(alloc, &field, term(7, 2), term(3, 1))?;
-    let mut copy = v.copy()?;
-    assert!(rt; is_vector(&copy, &[(7, 2), (3, 1)]));
-    let unit = Sparse::unit(alloc, 0);
-    copy.substitute(&field, 7, &unit)?;
-    assert!(rt; is_vector(&copy, &[(3, 1), (0, 2)]));
-    assert!(rt; is_vector(&v, &[(7, 2), (3, 1)]));
-    Ok(())
-}
-
-#[test]
-fn grows_past_four_terms_and_back(rt: HostRuntime) -> Result<(), Fail> {
-    let alloc = rt.alloc();
-    let Some(field) = Field::new(5) else {
-        panic!(rt; "5 is a prime");
-    };
-    let mut v = ladder(alloc, &field, 6)?;
-    let ones = v.copy()?;
-
-    // The id 3 itself stands in what replaces it, above and below the others.
-    v.substitute(&field, 3, &ones)?;
-    for id in 0..8 {
-        let wanted = if id > 5 {
-            0
-        } else if id == 3 {
-            1
-        } else {
-            2
-        };
-        assert_eq!(rt; v.coef_of(id), wanted, "at {id}");
-    }
-    v.scale(&field, 3);
-    v.add_scaled(&field, 4, &ones)?;
-    assert!(rt; is_vector(&v, &[(3, 2)]));
-    Ok(())
-}
-
-#[test]
-fn takes_leading_terms(rt: HostRuntime) -> Result<(), Fail> {
-    let alloc = rt.alloc();
-    let Some(field) = Field::new(5) else {
-        panic!(rt; "5 is a prime");
-    };
-    let mut v = pair(alloc, &field, term(7, 2), term(3, 1))?;
-    assert_eq!(rt; v.take_leading(), Some(term(7, 2)));
-    assert!(rt; is_vector(&v, &[(3, 1)]));
-    assert_eq!(rt; v.take_leading(), Some(term(3, 1)));
-    assert_eq!(rt; v.take_leading(), None);
-    Ok(())
-}
-
-#[test]
-fn keeps_the_rest(rt: HostRuntime) -> Result<(), Fail> {
-    let alloc = rt.alloc();
-    let Some(field) = Field::new(5) else {
-        panic!(rt; "5 is a prime");
-    };
-    let v = ladder(alloc, &field, 6)?;
-    let places: [usize; 3] = [0, 3, 6];
-    for from in places {
-        if from > v.len() {
-            panic!(rt; "the vector has 6 terms");
-        }
-        let rest = v.rest(from)?;
-        assert_eq!(rt; rest.len(), v.len() - from);
-        for at in 0..rest.len() {
-            assert_eq!(rt; rest.term(at), v.term(from + at));
-        }
-    }
-    Ok(())
+    sum.add_scaled(field, by[0], &Sparse::unit(alloc, 3));
+    sum.add_scaled(field, by[1], &Sparse::unit(alloc, 5));
+    sum.add_scaled(field, by[2], &Sparse::unit(alloc, 7));
+    sum.into_sparse(field)
 }
 
 /// A unit whose id gets its number.
@@ -231,8 +251,8 @@ impl Rows for OneRow {
     }
 }
 
-fn width(rows: &impl Rows, id: u32, letter: u8) -> Option<usize> {
-    Some(rows.row(id, letter)?.len())
+fn has_row(rows: &impl Rows, id: u32, letter: u8) -> bool {
+    rows.row(id, letter).is_some()
 }
 
 #[test]
@@ -242,13 +262,6 @@ fn reads_a_row(rt: HostRuntime) -> Result<(), Fail> {
         letter: 1,
         vector: Sparse::unit(rt.alloc(), 4),
     };
-    assert_eq!(rt;
-        (
-            width(&table, 3, 1),
-            width(&table, 3, 0),
-            width(&table, 1, 3)
-        ),
-        (Some(1), None, None)
-    );
+    assert!(rt; has_row(&table, 3, 1) && !has_row(&table, 3, 0) && !has_row(&table, 1, 3));
     Ok(())
 }
