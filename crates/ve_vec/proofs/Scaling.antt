@@ -1,8 +1,6 @@
 -- Products of a vector with a number.
-use Rattle.std.proofs.Common.{◌≡◌, ℕ, zero, suc, ◌+◌, ◌*◌, ◌%◌, ◌<◌, ◌≤◌, cond, nat_eq, List, [], ◌∷◌, ◌++◌, length, map, take, drop, get_or, refl, sym, ap, ◌∙◌, append-nil, add-one, arith}
+use Rattle.std.proofs.Common.{◌≡◌, ℕ, zero, suc, ◌+◌, ◌*◌, ◌%◌, ◌<◌, ◌≤◌, cond, nat_eq, List, [], ◌∷◌, ◌++◌, length, map, take, drop, get_or, refl, sym, ap, ◌∙◌, add-one, arith}
 use Rattle.std.proofs.Math.ListN.{set}
-use Rattle.std.specs.List.{refill}
-use Rattle.std.proofs.lemmas.List.{drop_all, take_all}
 use Rattle.std.proofs.Math.Nat.{add-mod, mod-mod, zero-mul}
 use Rattle.ve_theory.specs.Combinations.{Combination, scaled, coefficient, Alike, AllBefore, IsReduced, IsReducedOf}
 use Rattle.ve_vec.specs.declared.term.Term.{Term}
@@ -106,10 +104,3 @@ unfolding IsReduced
 IsReduced-at p [] i d reduced within = absurd (omega arith)
 IsReduced-at p (x ∷ xs) zero d reduced within = (reduced.0, reduced.1)
 IsReduced-at p (x ∷ xs) (suc i) d reduced within = IsReduced-at p xs i d reduced.3 (omega arith)
-
--- the items that a slice of the same length is written back to
-pub refilled : (xs ws : List Term) → length ws ≡ length xs → refill (length xs) xs ws ≡ ws
-refilled xs ws same =
-    ap (λ l. take (length xs) (ws ++ l)) (drop_all (length ws) xs (omega arith))
-    ∙ ap (take (length xs)) (append-nil ws)
-    ∙ take_all (length xs) ws (omega arith)
