@@ -7,10 +7,11 @@ use Rattle.ve_theory.specs.Elements.{AlgebraElement, greatest, inverse_of_letter
 use Rattle.ve_theory.specs.Presentations.{IsPresentation, inverse_relators, relators}
 use Rattle.ve_theory.specs.Validity.{is_name, is_rooted, IsValid}
 use Rattle.ve_theory.specs.Laws.{IsBalanceOf, none, kept}
+use Rattle.ve_lemmas.proofs.Words.{same_letters-true}
 use Rattle.ve_examples.specs.ThreeCycle.{three_cycle, three_cycle_relators}
 use Rattle.ve_examples.specs.Triangle.{triangle, balanced_triangle}
 use Rattle.ve_examples.proofs.ListTests.{every, all_below, all_pairs}
-use Rattle.ve_examples.proofs.OrderTests.{differs_below, is_reduced, is_reduced-true, is_shortlex_letters, is_shortlex_letters-true, same_letters-true}
+use Rattle.ve_examples.proofs.OrderTests.{differs_below, is_reduced, is_reduced-true, is_shortlex_letters, is_shortlex_letters-true}
 use Rattle.ve_examples.proofs.SumTests.{are_alike-true}
 use Rattle.ve_examples.proofs.PresentationTests.{is_presentation, is_presentation-true, is_valid, is_valid-true}
 

@@ -4,6 +4,7 @@ use Rattle.std.specs.List.{list_all}
 use Rattle.std.proofs.lemmas.Bool.{and_parts, and_from, or_cases, eqb-true, eq-eqb, ltb-true}
 use Rattle.ve_theory.specs.Combinations.{Combination, AllBefore, IsReduced}
 use Rattle.ve_theory.specs.Words.{Word, generator, start, letters, times_all, word_length, same_letters, same_word, DiffersBelow, IsSmaller, Shortlex, ShortlexLetters, word_weight, Weighted, spelled_back}
+use Rattle.ve_lemmas.proofs.Words.{same_letters-true}
 
 -- the smaller number first, then a further test
 abbrev pub by_number : ℕ → ℕ → Bool → Bool
@@ -83,15 +84,6 @@ is_reduced-true before Before sound p (t ∷ v) e =
     (ltb-true 0 t.1 bounds.0, ltb-true t.1 p bounds.1, AllBefore-from_test before Before sound t.0 v rest.0, is_reduced-true before Before sound p v rest.1)
 
 -- equal words
-
-pub same_letters-true : (u v : List ℕ) → same_letters u v ≡ true → u ≡ v
-unfolding same_letters
-same_letters-true [] [] e = refl
-same_letters-true [] (y ∷ v) e = absurd (cc)
-same_letters-true (x ∷ u) [] e = absurd (cc)
-same_letters-true (x ∷ u) (y ∷ v) e =
-    let parts = and_parts (nat_eq x y) (same_letters u v) e in
-    ap₂ ◌∷◌ (eqb-true x y parts.0) (same_letters-true u v parts.1)
 
 pub same_letters-itself : (u v : List ℕ) → u ≡ v → same_letters u v ≡ true
 unfolding same_letters
