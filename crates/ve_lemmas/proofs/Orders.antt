@@ -1,5 +1,5 @@
 -- The orders of letters and of words.
-use Rattle.std.proofs.Common.{◌≡◌, ℕ, inl, inr, arith}
+use Rattle.std.proofs.Common.{inl, inr, arith}
 use Rattle.ve_theory.specs.Words.{Word, letters, IsSmaller}
 use Rattle.ve_theory.proofs.Orders.{differs_irreflexive}
 pub use Rattle.ve_theory.proofs.Orders.{differs_irreflexive, differs_transitive}
