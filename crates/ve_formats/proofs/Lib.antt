@@ -6,7 +6,7 @@ mod TextLines
 pub mod Decimals
 pub mod NumbersBelow
 mod SameNames
-mod SpacedPieces
+pub mod SpacedPieces
 pub mod Depth
 -- ---- expressions
 mod Parsing
