@@ -11,6 +11,7 @@ use Rattle.ve_theory.specs.Elements.{AlgebraElement}
 use Rattle.ve_theory.specs.Presentations.{inverse_relators}
 use Rattle.ve_theory.specs.Validity.{AreBeside, algebra_cells, is_name, is_rooted}
 use Rattle.ve_lemmas.proofs.Lists.{All-last}
+use Rattle.ve_lemmas.proofs.Relators.{inverse_relators_letters}
 use Rattle.ve_word.specs.NameList.{AreLetterNames}
 use Rattle.ve_pres.specs.Drafts.{IsNewName}
 use Rattle.ve_pres.specs.declared.presentation.letters.Letters.{Letters}
@@ -52,12 +53,6 @@ inverse_relators-append p first (Some y ∷ xs) ys =
 pub inverse_relators-letters : (p : ℕ) (xs ts : List (Option ℕ)) → inverse_relators p 0 (xs ++ ts) ≡ inverse_relators p 0 xs ++ inverse_relators p (length xs) ts
 inverse_relators-letters p xs ts =
     inverse_relators-append p 0 xs ts ∙ ap (λ n. inverse_relators p 0 xs ++ inverse_relators p n ts) (let e : 0 + length xs ≡ length xs = omega arith in e)
-
-pub length-inverse_relators : (p first : ℕ) (xs : List (Option ℕ)) → length (inverse_relators p first xs) ≤ length xs
-unfolding inverse_relators
-length-inverse_relators p first [] = omega arith
-length-inverse_relators p first (None ∷ xs) = omega (arith, length-inverse_relators p (first + 1) xs)
-length-inverse_relators p first (Some y ∷ xs) = omega (arith, length-inverse_relators p (first + 1) xs)
 
 -- places in a list that grew
 
@@ -127,26 +122,12 @@ inverses_pair xs n m old is next = grown_inverses xs (Some m ∷ Some n ∷ []) 
 
 -- letters of relators exist
 
-inverse_letters : (p first n : ℕ) (xs : List (Option ℕ)) → first + length xs ≤ n → ((j y : ℕ) → slice_get xs j ≡ Some (Some y) → y < n)
-    → All (λ r. All (λ t. All (λ x. x < n) t.0) r) (inverse_relators p first xs)
-unfolding inverse_relators
-inverse_letters p first n [] room inside = All-nil (λ (r : AlgebraElement). All (λ (t : List ℕ × ℕ). All (λ (x : ℕ). x < n) t.0) r)
-inverse_letters p first n (None ∷ xs) room inside = inverse_letters p (first + 1) n xs (omega arith) (λ j y e. inside (suc j) y e)
-inverse_letters p first n (Some y ∷ xs) room inside =
-    let here : y < n = inside 0 y refl in
-    let rest : All (λ r. All (λ t. All (λ x. x < n) t.0) r) (inverse_relators p (first + 1) xs) = inverse_letters p (first + 1) n xs (omega arith) (λ j y e. inside (suc j) y e) in
-    All-cons (λ (r : AlgebraElement). All (λ (t : List ℕ × ℕ). All (λ (x : ℕ). x < n) t.0) r) ((first ∷ y ∷ [], 1) ∷ ([], p - 1) ∷ []) (inverse_relators p (first + 1) xs)
-    (All-cons (λ (t : List ℕ × ℕ). All (λ (x : ℕ). x < n) t.0) (first ∷ y ∷ [], 1) (([], p - 1) ∷ [])
-    (All-cons (λ (x : ℕ). x < n) first (y ∷ []) (omega arith) (All-cons (λ (x : ℕ). x < n) y [] here (All-nil (λ (x : ℕ). x < n))))
-    (All-cons (λ (t : List ℕ × ℕ). All (λ (x : ℕ). x < n) t.0) ([], p - 1) [] (All-nil (λ (x : ℕ). x < n)) (All-nil (λ (t : List ℕ × ℕ). All (λ (x : ℕ). x < n) t.0))))
-    rest
-
 pub relators_letters : (version p : ℕ) (letters : Letters) → AreLetters version p letters
     → All (λ r. All (λ t. All (λ x. x < length letters.weights.items) t.0) r) letters.relators.items
 relators_letters version p letters are =
     let P : List AlgebraElement → Type 0 = λ rs. All (λ (r : AlgebraElement). All (λ (t : List ℕ × ℕ). All (λ (x : ℕ). x < length letters.weights.items) t.0) r) rs in
     subst P (sym are.relators)
-    (inverse_letters p 0 (length letters.weights.items) letters.inverses.items (omega (arith, are.one_inverse_each, are.one_weight_each))
+    (inverse_relators_letters p (length letters.weights.items) 0 letters.inverses.items (omega (arith, are.one_inverse_each, are.one_weight_each))
     (λ j y e. omega (arith, slice_get_within letters.inverses.items y (Some j) (are.inverses j y e), are.one_inverse_each, are.one_weight_each)))
 
 -- the cells of relators of inverses

@@ -16,7 +16,8 @@ use Rattle.ve_pres.specs.Built.{draft_of, IsBuilt}
 use Rattle.ve_pres.specs.Relations.{IsKeepable, IsKeepableSubmodule}
 use Rattle.ve_pres.specs.Letters.{AreLetters, AreSame}
 use Rattle.ve_pres.proofs.Bounds.{greatest_of-append, greatest_of-one, greatest_of-none, sum_by-append}
-use Rattle.ve_pres.proofs.LetterLists.{cells_of_inverses, length-inverse_relators, same_letters}
+use Rattle.ve_lemmas.proofs.Relators.{length-inverse_relators}
+use Rattle.ve_pres.proofs.LetterLists.{cells_of_inverses, same_letters}
 
 -- presentations by their parts
 parts : (version : ℕ) (balanced : Bool) (prime : ℕ) (names : List (List ℕ)) (inverses : List (Option ℕ)) (weights : List ℕ) (generators : ℕ) (relations : List AlgebraElement) (submodule : List Element) → Presentation
