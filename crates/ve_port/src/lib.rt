@@ -22,6 +22,3 @@ pub use source::Source;
 pub use sure_sink::SureSink;
 pub use sure_source::SureSource;
 pub use to_write::ToWrite;
-
-#[cfg(test)]
-mod tests;

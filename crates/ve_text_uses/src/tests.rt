@@ -4,5 +4,7 @@ mod made;
 mod outgrown;
 mod runs;
 mod shown;
+mod spelling;
+mod streams;
 mod values;
 mod words;

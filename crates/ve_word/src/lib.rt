@@ -12,6 +12,3 @@ pub use names::{NameFault, Names};
 pub use order::{shortlex, weighted};
 pub use text::write_word;
 pub use word::Word;
-
-#[cfg(test)]
-mod tests;

@@ -1,5 +1,5 @@
 use Rattle.ve_port.specs.Writing.{Writes-stopped, Writes-after, Stops-longer}
-use Rattle.ve_port.proofs.tests.lines.write_all.Goals as goal
+use Rattle.ve_text_uses.proofs.tests.streams.lines.write_all.Goals as goal
 
 pub returns-in_err-write_three : goal.returns-in_err-write_three
 returns-in_err-write_three g c = Writes-stopped c.from_residual.ensures.1 (Stops-longer c.in_err-write_three.ensures.stopped _)

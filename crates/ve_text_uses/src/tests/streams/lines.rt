@@ -3,9 +3,9 @@ ghost use Rattle.std.specs.Prelude.{◌++◌};
 ghost use Rattle.std.specs.List.{flat_map};
 ghost use Rattle.ve_port.specs.Writing.{Writes};
 
-use crate::{MemSink, OutFault, Sink};
 use std::alloc::Global;
 use std::test::Fail;
+use ve_port::{MemSink, OutFault, Sink};
 use ve_word::Memory;
 
 fn write_three<K: Sink>(a: &[u8], b: &[u8], c: &[u8], out: &mut K) -> Result<(), OutFault>

@@ -2,9 +2,9 @@ ghost use Rattle.std.specs.Prelude.{IsTrue};
 ghost use Rattle.std.specs.List.{list_all};
 ghost use Rattle.ve_theory.specs.Validity.{is_name};
 
-use crate::{NameFault, Names};
 use std::process::Abort;
 use std::test::Fail;
+use ve_word::{NameFault, Names};
 
 fn add_each(rt: &impl Abort, names: &mut Names, cases: &[(&str, Result<u8, NameFault>)])
     requires { IsTrue (list_all (λ case. is_name case.0.now) cases.now) }

@@ -1,3 +1,5 @@
+//! Sources and sinks of bytes.
+
 mod edge;
 mod lines;
 mod memory;

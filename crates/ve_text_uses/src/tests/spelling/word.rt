@@ -1,8 +1,8 @@
-use crate::Word;
 use std::test::Fail;
+use ve_word::Word;
 
 fn is_spelled(word: &Word, root: u8, letters: &[u8]) -> bool {
-    word.root_of() == root && word.letters() == letters
+    word.root_of() == root && word.spelling().as_slice() == letters
 }
 
 #[test]

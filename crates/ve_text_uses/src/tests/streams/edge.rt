@@ -1,8 +1,8 @@
 //! Readers as sources and writers as sinks.
-use crate::{Failed, FromRead, Sink, Source, ToWrite};
 use std::io;
 use std::io::{ErrorKind, Read, Write};
 use std::test::Fail;
+use ve_port::{Failed, FromRead, Sink, Source, ToWrite};
 
 /// What a call of a scripted stream does.
 #[derive(Clone, Copy, Debug)]

@@ -1,7 +1,7 @@
 use super::{is_below, word_of};
-use crate::{shortlex, weighted};
 use std::cmp::Ordering;
 use std::test::Fail;
+use ve_word::{shortlex, weighted};
 
 #[test]
 fn shorter_words_come_first(rt: HostRuntime) -> Result<(), Fail> {

@@ -1,7 +1,7 @@
 use super::{is_below, word_of};
-use crate::{NameFault, Names, write_word};
 use std::alloc::Global;
 use std::test::Fail;
+use ve_word::{NameFault, Names, write_word};
 
 #[tactic(auto, unfolding(ve_theory::specs::Validity::is_name))]
 fn three_names(alloc: Global) -> Result<Names, NameFault> {

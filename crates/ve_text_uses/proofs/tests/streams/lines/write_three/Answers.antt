@@ -1,6 +1,6 @@
 use Rattle.ve_port.specs.Writing.{Writes-stopped, Stops-put, Stops-longer, Stops-after}
 use Rattle.ve_port.specs.Sink.{Gains-append}
-use Rattle.ve_port.proofs.tests.lines.write_three.Goals as goal
+use Rattle.ve_text_uses.proofs.tests.streams.lines.write_three.Goals as goal
 
 pub returns-in_err-put : goal.returns-in_err-put
 returns-in_err-put g c = Writes-stopped c.from_residual.ensures.1 (Stops-longer (Stops-longer (Stops-put c.in_err-put.ensures.failed) _) _)

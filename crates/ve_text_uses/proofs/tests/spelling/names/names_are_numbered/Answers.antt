@@ -1,6 +1,6 @@
 use Rattle.std.proofs.Common.{refl}
 use Rattle.ve_theory.specs.Validity.{is_name}
-use Rattle.ve_word.proofs.tests.names.full_lists_take_no_name.Goals as goal
+use Rattle.ve_text_uses.proofs.tests.spelling.names.names_are_numbered.Goals as goal
 
 pub add_each-requires : goal.add_each-requires
 unfolding is_name

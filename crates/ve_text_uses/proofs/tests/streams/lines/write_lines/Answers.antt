@@ -1,6 +1,6 @@
 use Rattle.ve_port.specs.Writing.{Writes-stopped, Stops-put, Stops-item, Gains-item, Gains-items, Writes-gained}
 use Rattle.ve_port.specs.Sink.{Gains-nil}
-use Rattle.ve_port.proofs.tests.lines.write_lines.Goals as goal
+use Rattle.ve_text_uses.proofs.tests.streams.lines.write_lines.Goals as goal
 
 pub loop-line-init : goal.loop-line-init
 loop-line-init g c = Gains-nil _

@@ -1,3 +1,5 @@
+//! Words, their order and their texts, and the names of letters.
+
 ghost use Rattle.std.specs.Prelude.{◌<◌, ◌↔◌, All, IsTrue};
 ghost use Rattle.ve_theory.specs.Words.{letters};
 
@@ -6,8 +8,8 @@ mod order;
 mod text;
 mod word;
 
-use crate::{Memory, Word};
 use std::alloc::Global;
+use ve_word::{Memory, Word};
 
 fn word_of(alloc: Global, root: u8, letters: &[u8]) -> Result<Word, Memory> {
     let mut word = Word::root(alloc, root);
@@ -21,7 +23,7 @@ fn word_of(alloc: Global, root: u8, letters: &[u8]) -> Result<Word, Memory> {
 fn is_below(word: &Word, bound: usize) -> bool
     ensures { IsTrue result ↔ All (λ letter. letter < bound) (letters word.now) }
 {
-    word.letters()
+    word.spelling()
         .iter()
         .all(|&letter| usize::from(letter) < bound)
 }

@@ -1,6 +1,6 @@
 //! Sources and sinks in memory.
-use crate::{Failed, MemSink, MemSource, Sink, Source, SureSink, SureSource};
 use std::test::Fail;
+use ve_port::{Failed, MemSink, MemSource, Sink, Source, SureSink, SureSource};
 
 #[test]
 fn a_sink_in_memory_fails_where_it_is_told(rt: HostRuntime) -> Result<(), Fail> {
