@@ -8,6 +8,7 @@ use Rattle.ve_theory.specs.Combinations.{difference}
 use Rattle.ve_theory.specs.Answers.{Row}
 use Rattle.ve_theory.specs.Laws.{HasInverses, LevelsAreClosed}
 use Rattle.ve_theory.proofs.Sums.{SameWeights_of}
+use Rattle.ve_lemmas.proofs.Lists.{Contains-cons}
 use Rattle.ve_table.specs.Tables.{ActionTable, presented}
 use Rattle.ve_table.proofs.Entries.{same_some}
 use Rattle.ve_machine.specs.Forwards.{IsDrawnFrom, IsForwarding}
@@ -20,7 +21,7 @@ use Rattle.ve_machine.specs.Covered as Covered
 use Rattle.ve_machine.specs.SharedLaws.{KeepsKnown, StepsKeepCovered, StepsKeepDone}
 use Rattle.ve_machine.proofs.Forwardings.{IsForwarding-chained, IsForwarding-nothing, drawn_forwarding, nothing_forwarded, positive_prime}
 use Rattle.ve_machine.proofs.UnderWay.{stays_where_rewritten}
-use Rattle.ve_machine.proofs.SharedLists.{contains_but, contains_first, set_else, set_here}
+use Rattle.ve_machine.proofs.SharedLists.{contains_but, set_else, set_here}
 use Rattle.ve_machine.proofs.KeptKnown.{forwarding_turned, kept_where_same}
 use Rattle.ve_machine.proofs.OwedRelations.{Passes, covered_on, passes_away, passes_itself}
 use Rattle.ve_machine.proofs.SoundSteps.{death_keeps, drawn_live, sound_after}
@@ -112,7 +113,7 @@ module _ (inverses : HasInverses) (closed : LevelsAreClosed) (S : State) (seat :
   after_submit job v can = record {
     rows = covered.rows;
     jobs = λ other there.
-        elim (contains_first job S.done other there) [
+        elim (Contains-cons job other S.done there) [
           | inl same ↦ subst (IsOwedBy (submitted S seat job v)) same (v, queued v (Contains-push S.queue v), can.comes)
           | inr earlier ↦ jobs_on (submitted S seat job v) (kept_where_same O S.forwards) (kept_queue S (submitted S seat job v) seat positive (v ∷ []) refl)
               (kept_desks S (submitted S seat job v) seat positive (with_job job) empty_desk can.on_desk (λ no_relation. no_relation) refl) other earlier

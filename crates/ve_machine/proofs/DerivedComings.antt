@@ -1,9 +1,8 @@
 -- What is known is derived within the level, and so are the values of jobs, and the vectors that come from them.
-use Rattle.std.proofs.Common.{◌≡◌, ℕ, suc, ◌+◌, ◌-◌, ◌*◌, ◌%◌, ◌<◌, ◌≤◌, ◌⊎◌, inl, inr, nat_eq, List, ◌++◌, length, All, refl, sym, ap, subst, ◌∙◌, arith}
+use Rattle.std.proofs.Common.{◌≡◌, ℕ, ◌+◌, ◌-◌, ◌*◌, ◌<◌, ◌≤◌, ◌⊎◌, inl, inr, nat_eq, List, [], ◌++◌, length, All, refl, sym, ap₂, subst, ◌∙◌, arith}
 use Rattle.std.specs.Prelude.{Option}
 use Rattle.std.proofs.lemmas.Bool.{cases_lt}
 use Rattle.std.proofs.lemmas.List.Elements.{All-weaker}
-use Rattle.ve_theory.specs.Residues.{Congruent}
 use Rattle.ve_theory.specs.Combinations.{Combination, difference, scaled, unit}
 use Rattle.ve_theory.specs.Words.{generator, same_word, times}
 use Rattle.ve_theory.specs.Elements.{Element}
@@ -11,9 +10,9 @@ use Rattle.ve_theory.specs.Presentations.{Presentation, reach}
 use Rattle.ve_theory.specs.Derivations.{DerivedWithin}
 use Rattle.ve_theory.specs.Answers.{Row}
 use Rattle.ve_theory.specs.Laws.{LevelsAreClosed}
-use Rattle.ve_theory.proofs.Sums.{SameWeights, SameWeights-append, SameWeights-difference, SameWeights-extended, SameWeights-refl, SameWeights-sym, SameWeights-trans, SameWeights_of, Decides-nat_eq, Decides-same_word, extended-append, extended-difference, extended-scaled, extended-unit, weigh, weigh-append, weigh-difference, weigh-scaled, weights_from_Alike}
-use Rattle.ve_theory.proofs.Independence.{congruent_by}
-use Rattle.ve_theory.proofs.DerivedElements.{DerivedWithin-alike, DerivedWithin-combined, DerivedWithin-times}
+use Rattle.ve_theory.proofs.Sums.{SameWeights, SameWeights-append, SameWeights-difference, SameWeights-extended, SameWeights-refl, SameWeights-sym, SameWeights-trans, SameWeights_of, Decides-nat_eq, Decides-same_word, difference-nil, extended-append, extended-difference, extended-scaled, extended-unit, weigh, weigh-append, weigh-difference, weigh-scaled, weights_from_Alike}
+use Rattle.ve_theory.proofs.DerivedElements.{DerivedWithin-alike, DerivedWithin-combined, DerivedWithin-times, SameWeights-equal}
+use Rattle.ve_theory.proofs.UniqueAnswers.{difference_of_differences}
 use Rattle.ve_theory.proofs.Orders.{before_reach, reach-times}
 use Rattle.ve_vec.specs.Tracing.{row_or_zero, vector_times}
 use Rattle.ve_table.specs.Tables.{ActionTable, element_of, presented, row_at, word_at}
@@ -33,38 +32,24 @@ use Rattle.ve_machine.proofs.Tracing.{IsIdUpTo, IsTraced, next_traced}
 
 -- differences
 
-apart : (m u v w : ℕ) → Congruent (suc m) (u + m * w + m * (u + m * v)) (v + m * w)
-apart m u v w = congruent_by (suc m) (u + m * w + m * (u + m * v)) (v + m * w) v (u + m * v) (omega arith)
-
 differences_apart : {K : Type 0} (p : ℕ) (u v w : Combination K) → 0 < p → SameWeights p (difference p (difference p u w) (difference p u v)) (difference p v w)
-differences_apart p u v w positive = record {
-  at = λ h.
-      let m : ℕ = p - 1 in
-      let left : weigh h (difference p (difference p u w) (difference p u v)) ≡ weigh h u + m * weigh h w + m * (weigh h u + m * weigh h v) =
-      weigh-difference h p (difference p u w) (difference p u v) ∙ omega (arith, weigh-difference h p u w, ap (λ n. m * n) (weigh-difference h p u v)) in
-      ap (λ n. n % p) left
-      ∙ subst (λ q. Congruent q (weigh h u + m * weigh h w + m * (weigh h u + m * weigh h v)) (weigh h v + m * weigh h w)) (omega (arith, positive)) (apart m (weigh h u) (weigh h v) (weigh h w))
-      ∙ ap (λ n. n % p) (sym (weigh-difference h p v w));
-}
+differences_apart {K} p u v w positive =
+    SameWeights-trans (SameWeights-equal (λ h. weigh-difference h p (difference p u w) (difference p u v) ∙ in_turn ((p - 1) * weigh h (difference p u v)) (weigh h (difference p u w)) ∙ sym (turned h)))
+    (difference_of_differences p u v w positive)
+  where
+    in_turn : (a b : ℕ) → b + a ≡ a + 1 * b
+    in_turn a b = omega arith
 
-left_over : (m u v : ℕ) → Congruent (suc m) (1 * u + m * (u + m * v)) v
-left_over m u v = congruent_by (suc m) (1 * u + m * (u + m * v)) v v (u + m * v) (omega arith)
+    turned : (h : K → ℕ) → weigh h (scaled (p - 1) (difference p u v) ++ scaled 1 (difference p u w)) ≡ (p - 1) * weigh h (difference p u v) + 1 * weigh h (difference p u w)
+    turned h =
+        weigh-append h (scaled (p - 1) (difference p u v)) (scaled 1 (difference p u w))
+        ∙ ap₂ (λ a b. a + b) (weigh-scaled h (p - 1) (difference p u v)) (weigh-scaled h 1 (difference p u w))
 
 -- what is left of a derived element less a derived one
 pub derived_rest : (P : Presentation) (k : ℕ) (u v : Element) → 0 < P.prime → DerivedWithin P k u → DerivedWithin P k (difference P.prime u v) → DerivedWithin P k v
-derived_rest P k u v positive one other = DerivedWithin-alike P k same (DerivedWithin-combined P k 1 (P.prime - 1) one other)
-  where
-    same : SameWeights P.prime (scaled 1 u ++ scaled (P.prime - 1) (difference P.prime u v)) v
-    same = record {
-      at = λ h.
-          let p : ℕ = P.prime in
-          let m : ℕ = p - 1 in
-          let left : weigh h (scaled 1 u ++ scaled m (difference p u v)) ≡ 1 * weigh h u + m * (weigh h u + m * weigh h v) =
-          weigh-append h (scaled 1 u) (scaled m (difference p u v))
-          ∙ omega (arith, weigh-scaled h 1 u, weigh-scaled h m (difference p u v), ap (λ n. m * n) (weigh-difference h p u v)) in
-          ap (λ n. n % p) left
-          ∙ subst (λ q. Congruent q (1 * weigh h u + m * (weigh h u + m * weigh h v)) (weigh h v)) (omega (arith, positive)) (left_over m (weigh h u) (weigh h v));
-    }
+derived_rest P k u v positive one other =
+    DerivedWithin-alike P k (SameWeights-trans (difference_of_differences P.prime u v [] positive) (difference-nil P.prime v))
+    (DerivedWithin-combined P k (P.prime - 1) 1 other (DerivedWithin-alike P k (SameWeights-sym (difference-nil P.prime u)) one))
 
 -- a table whose forwards, and rows, are those of a sound one with the same words
 module _ (O : ActionTable) (forwards : Forwards) (rows : List (List (Option Row))) (sound : IsSound O) (now : IsSound (record O { forwards = forwards; rows = rows })) where

@@ -131,14 +131,6 @@ apply_allowed p hand next (begins_forward sum after vector part parts row forwar
 apply_allowed p hand next (multiplies sum coefficient parts vector after x left founds rows_found reduced) = rows_found
 apply_allowed p hand next (sums sum after coefficient parts vector reading reduced) = tt
 
-abbrev IsBusyDesk : Desk → Type 0
-IsBusyDesk empty_desk = ⊥
-IsBusyDesk (with_job job) = Unit {0}
-IsBusyDesk (with_relation v) = Unit {0}
-
-busy : (desk : Desk) → IsBusyDesk desk → desk ≢ empty_desk
-busy desk is same = subst IsBusyDesk same is
-
 -- what is enabled is allowed
 allowed : (M : Machine) (event : Event) (N : Machine) → Move M event N → IsAllowed M event
 allowed M event N (takes seat job can) = can
@@ -148,8 +140,8 @@ allowed M event N (lifts seat place v can) = (can.idle, (v, can.queued))
 allowed M event N (drops seat relation reading on_desk has) = (relation, on_desk, ([], (reading, has), All-nil (λ (t : ℕ × ℕ). slice_get M.shared.forwards t.0 ≡ Some None)))
 allowed M event N (deletes seat relation v reading id forward on_desk has live drawn) = (relation, on_desk, (v, (reading, has), live))
 allowed M event N (rewrites b x next can) = (can.row, can.is_row, can.stale)
-allowed M event N (returns_job seat job on_desk) = record { desk = with_job job; on_desk = on_desk; busy = busy (with_job job) tt }
-allowed M event N (returns_relation seat relation v reading on_desk has) = record { desk = with_relation relation; on_desk = on_desk; busy = busy (with_relation relation) tt }
+allowed M event N (returns_job seat job on_desk) = record { desk = with_job job; on_desk = on_desk; busy = λ empty. cc }
+allowed M event N (returns_relation seat relation v reading on_desk has) = record { desk = with_relation relation; on_desk = on_desk; busy = λ empty. cc }
 allowed M event N (repairs seat hand next has repairs_it) = (hand, has, repair_allowed (presented M.shared.opening).prime hand next repairs_it)
 allowed M event N (applies seat hand next has applies_it) = (hand, has, apply_allowed (presented M.shared.opening).prime hand next applies_it)
 

@@ -1,20 +1,17 @@
 -- Finished tables stay finished where rows and images are resolved and dead ids dropped.
-use Rattle.std.proofs.Common.{◌≡◌, ℕ, zero, suc, ◌+◌, ◌-◌, ◌*◌, ◌%◌, ◌<◌, ◌⊎◌, inl, inr, Some, None, List, [], ◌∷◌, length, map, take, get_or, All, Contains, refl, sym, ap, subst, ◌∙◌, arith}
+use Rattle.std.proofs.Common.{◌≡◌, ℕ, zero, suc, ◌-◌, ◌<◌, ◌⊎◌, inl, inr, Some, None, List, [], ◌∷◌, length, map, take, get_or, All, Contains, refl, sym, ap, subst, ◌∙◌, arith}
 use Rattle.std.specs.Prelude.{Option, slice_get, slice_index_or}
 use Rattle.std.specs.Option.{option_map}
 use Rattle.std.proofs.lemmas.Bool.{cases_order}
 use Rattle.std.proofs.lemmas.Option.{same_Some, none-some, slice_get-map, slice_get_within, get_or_from_slice_get}
 use Rattle.std.proofs.lemmas.List.{get_or_default, get_or_past}
 use Rattle.std.proofs.lemmas.List.Elements.{All-map, All-weaker}
-use Rattle.ve_theory.specs.Combinations.{scaled, difference}
-use Rattle.ve_theory.specs.Residues.{Congruent}
 use Rattle.ve_theory.specs.Words.{generator, times}
 use Rattle.ve_theory.specs.Presentations.{Presentation, before}
 use Rattle.ve_theory.specs.Levels.{IsNormal}
 use Rattle.ve_theory.specs.Answers.{Row, image_row, matrix_row}
 use Rattle.ve_theory.specs.Laws.{FinishedLevelsSettle}
-use Rattle.ve_theory.proofs.Sums.{weigh, weigh-scaled, weigh-difference, SameWeights, SameWeights-sym, SameWeights-trans}
-use Rattle.ve_theory.proofs.Independence.{congruent_by}
+use Rattle.ve_theory.proofs.Sums.{SameWeights-sym, SameWeights-trans}
 use Rattle.ve_theory.proofs.Orders.{before_irreflexive}
 use Rattle.ve_theory.proofs.LevelBounds.{IsNormal-prefix}
 use Rattle.ve_table.specs.Tables.{ActionTable, presented, word_at, row_at, IsLive, of_live, live_words, live_below}
@@ -28,6 +25,7 @@ use Rattle.ve_machine.specs.Forwards.{IsResolved}
 use Rattle.ve_machine.specs.Finished.{IsFinishedTable, IsPacked, PrefixesAreLive}
 use Rattle.ve_machine.specs.Laws.{StaysFinished}
 use Rattle.ve_machine.proofs.Forwardings.{positive_prime, IsForwarding-alike, IsForwarding-scaled, forwarded_on, nothing_forwarded}
+use Rattle.ve_machine.proofs.KeptKnown.{turned_same}
 use Rattle.ve_machine.proofs.CarriedRows.{carried_alive}
 use Rattle.ve_machine.proofs.LiveActions.{number, renumbered_sum}
 use Rattle.ve_machine.proofs.SettledSteps.{resolved_settled}
@@ -60,24 +58,13 @@ prefixes_live settle T done a b x live word lt =
 
 -- resolved rows and images
 
-flipped : (m v w : ℕ) → Congruent (suc m) (m * (v + m * w)) (w + m * v)
-flipped m v w = congruent_by (suc m) (m * (v + m * w)) (w + m * v) w (m * w) (omega arith)
-
-difference_flipped : (p : ℕ) (v w : Row) → 0 < p → SameWeights p (scaled (p - 1) (difference p v w)) (difference p w v)
-difference_flipped p v w positive = record {
-  at = λ h.
-      ap (λ n. n % p) (weigh-scaled h (p - 1) (difference p v w) ∙ ap (λ n. (p - 1) * n) (weigh-difference h p v w))
-      ∙ (subst (λ q. Congruent q ((p - 1) * (weigh h v + (p - 1) * weigh h w)) (weigh h w + (p - 1) * weigh h v)) (omega (arith, positive)) (flipped (p - 1) (weigh h v) (weigh h w))
-      ∙ ap (λ n. n % p) (sym (weigh-difference h p w v)));
-}
-
 -- two resolved forms are such of each other
 resolved_again : (T : ActionTable) (v w u : Row) → IsSound T → IsResolved (presented T).prime T.forwards v w → IsResolved (presented T).prime T.forwards v u → IsResolved (presented T).prime T.forwards w u
 resolved_again T v w u sound one other = record {
   reduced = other.reduced;
   live = other.live;
   forwarding = forwarded_on (presented T).prime T.forwards w v u (positive_prime T sound)
-      (IsForwarding-alike (presented T).prime T.forwards (difference_flipped (presented T).prime v w (positive_prime T sound))
+      (IsForwarding-alike (presented T).prime T.forwards (turned_same (presented T).prime v w (positive_prime T sound))
       (IsForwarding-scaled (presented T).prime T.forwards ((presented T).prime - 1) one.forwarding))
       other.forwarding;
 }

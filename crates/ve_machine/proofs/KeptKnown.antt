@@ -24,7 +24,7 @@ use Rattle.ve_machine.proofs.SharedLists.{set_else}
 turned_weight : (m u v : ℕ) → Congruent (suc m) (m * (u + m * v)) (v + m * u)
 turned_weight m u v = congruent_by (suc m) (m * (u + m * v)) (v + m * u) v (m * v) (omega arith)
 
-turned_same : (p : ℕ) (u v : Row) → 0 < p → SameWeights p (scaled (p - 1) (difference p u v)) (difference p v u)
+pub turned_same : (p : ℕ) (u v : Row) → 0 < p → SameWeights p (scaled (p - 1) (difference p u v)) (difference p v u)
 turned_same p u v positive = record {
   at = λ h.
       let m : ℕ = p - 1 in

@@ -6,6 +6,7 @@ use Rattle.std.proofs.lemmas.List.Elements.{All-nil}
 use Rattle.std.proofs.lemmas.Option.{none-some}
 use Rattle.ve_theory.specs.Answers.{Row}
 use Rattle.ve_theory.specs.Laws.{HasInverses, LevelsAreClosed}
+use Rattle.ve_lemmas.proofs.Lists.{All-slice_get}
 use Rattle.ve_table.specs.Tables.{ActionTable, presented}
 use Rattle.ve_table.proofs.Entries.{same_some}
 use Rattle.ve_machine.specs.Forwards.{AreLive, Forwards, IsDrawnFrom}
@@ -20,7 +21,6 @@ use Rattle.ve_machine.specs.ImageHands.{IsLifted, IsRightHand}
 use Rattle.ve_machine.specs.Machines.{AreRightHands, Event, Goes, IsBy, HasHand, IsRightMachine, Machine, Move, applies, deletes, drops, further, lifts, nowhere, opened_machine, passed_over, reads, repairs, returns_job, returns_relation, rewrites, submits, takes, with_hand}
 use Rattle.ve_machine.proofs.Forwardings.{nothing_forwarded, positive_prime}
 use Rattle.ve_theory.proofs.Sums.{SameWeights-refl}
-use Rattle.ve_machine.proofs.SharedLists.{all_here}
 use Rattle.ve_machine.proofs.KeptKnown.{kept_where_same}
 use Rattle.ve_machine.proofs.SoundSteps.{known_after, sound_after}
 use Rattle.ve_machine.proofs.CoveredSteps.{covered_after}
@@ -63,7 +63,7 @@ module _ (inverses : HasInverses) (closed : LevelsAreClosed) (M : Machine) (righ
   in_hand desk hand on_desk has = hand_at O S.forwards S.desks M.hands right.right seat desk hand on_desk has
 
   sound_desk : (desk : Desk) → HasDesk S seat desk → IsSoundDesk O S.forwards desk
-  sound_desk desk is = all_here (IsSoundDesk O S.forwards) S.desks seat desk is right.sound.desks
+  sound_desk desk is = All-slice_get (IsSoundDesk O S.forwards) S.desks seat desk is right.sound.desks
 
   -- the desk and the hand change, and no id dies
   other_desk : (before desk : Desk) (hand : Hand) → HasDesk S seat before → IsRightHand O S.forwards desk hand → AreRightHands O S.forwards (set S.desks seat desk) (set M.hands seat hand)
@@ -93,7 +93,7 @@ module _ (inverses : HasInverses) (closed : LevelsAreClosed) (M : Machine) (righ
       by_step (lifted S seat place v) (set M.hands seat (summed_hand v unread)) (steps.lifts place v can)
       (other_desk empty_desk (with_relation v) (summed_hand v unread) can.idle
       (record {
-        vector_on = (all_here (IsRelation O) S.queue place v can.queued right.sound.queue).vector;
+        vector_on = (All-slice_get (IsRelation O) S.queue place v can.queued right.sound.queue).vector;
         same = nothing_forwarded p S.forwards v v positive (SameWeights-refl p v);
         read = tt;
       }))

@@ -9,20 +9,13 @@ use Rattle.ve_theory.proofs.Sums.{SameWeights, SameWeights-sym, SameWeights-tran
 use Rattle.ve_table.specs.Tables.{ActionTable, presented, row_at, IsLive, of_live, live_words, live_below}
 use Rattle.ve_table.specs.Sound.{IsSound}
 use Rattle.ve_table.specs.Changes.{renumbered}
+use Rattle.ve_table.proofs.Opening.{all_live}
 use Rattle.ve_machine.specs.Forwards.{stand_in, IsResolved}
 use Rattle.ve_machine.specs.Finished.{IsActionOf, IsPacked}
 use Rattle.ve_machine.proofs.Forwardings.{positive_prime, stands_by}
 use Rattle.ve_machine.proofs.CarriedRows.{forwarding_vanishes}
 use Rattle.ve_machine.proofs.ResolvedVectors.{live_within}
 use Rattle.ve_machine.proofs.LiveActions.{number, renumbered_sum}
-
-all_kept : {X : Type 0} (fs : List (Option Row)) (xs : List X) → All (λ f. f ≡ None) fs → length fs ≡ length xs → of_live fs xs ≡ xs
-unfolding of_live
-all_kept [] [] none same = refl
-all_kept [] (x ∷ xs) none same = absurd (omega (arith, same))
-all_kept (f ∷ fs) [] none same = absurd (omega (arith, same))
-all_kept (None ∷ fs) (x ∷ xs) none same = ap (λ l. x ∷ l) (all_kept fs xs (All-tail (λ (f : Option Row). f ≡ None) None fs none) (omega (arith, same)))
-all_kept (Some v ∷ fs) (x ∷ xs) none same = absurd (none-some v (sym (All-head (λ (f : Option Row). f ≡ None) (Some v) fs none)))
 
 all_counted : {X : Type 0} (fs : List (Option Row)) (xs : List X) (b : ℕ) → All (λ f. f ≡ None) fs → length fs ≡ length xs → b ≤ length fs → length (of_live (take b fs) xs) ≡ b
 unfolding of_live
@@ -34,7 +27,7 @@ all_counted (Some v ∷ fs) (x ∷ xs) (suc b) none same le = absurd (none-some 
 
 module _ (F : ActionTable) (packed : IsPacked F) (sound : IsSound F) where
   pub packed_words : live_words F ≡ F.words
-  packed_words = all_kept F.forwards F.words packed sound.one_forward_each
+  packed_words = all_live F.forwards F.words packed sound.one_forward_each
 
   pub packed_number : (b : ℕ) → b < length F.words → live_below F b ≡ b
   packed_number b lt = all_counted F.forwards F.words b packed sound.one_forward_each (omega (arith, lt, sound.one_forward_each))

@@ -8,18 +8,19 @@ use Rattle.ve_theory.specs.Answers.{Row}
 use Rattle.ve_theory.specs.Laws.{FinishedLevelsAreUnique}
 use Rattle.ve_theory.specs.FinishedLevels.{IsFinishedLevel}
 use Rattle.ve_theory.proofs.Sums.{SameWeights, SameWeights-append, SameWeights-difference, SameWeights-extended, SameWeights-refl, SameWeights-scaled, SameWeights-sym, SameWeights-trans, Alike_from_weights, Decides-nat_eq, difference-nil, weights_from_Alike}
+use Rattle.ve_lemmas.proofs.Lists.{All-slice_get}
 use Rattle.ve_table.specs.Tables.{ActionTable, element_of, presented}
 use Rattle.ve_machine.specs.Known.{Known}
 use Rattle.ve_machine.specs.Jobs.{IsImageJob, IsKnownBelow, IsLiveIn, IsRelatorJob, IsSettled, IsSubmoduleJob, IsUnderWay, image_value, relator_value, submodule_value}
 use Rattle.ve_machine.specs.Jobs as Jobs
 use Rattle.ve_machine.specs.Finished.{IsFinishedTable, IsOpening}
 use Rattle.ve_machine.specs.Laws.{NothingLeftIsFinished}
-use Rattle.ve_machine.specs.Seats.{Desk, Job, State, empty_desk, image_job, present, relator_job, submodule_job, with_job, with_relation}
+use Rattle.ve_machine.specs.Seats.{Job, State, empty_desk, image_job, present, relator_job, submodule_job, with_job, with_relation}
 use Rattle.ve_machine.specs.SharedJobs.{HasLiveId, IsOfLevel}
 use Rattle.ve_machine.specs.Covered.{IsCovered, IsOwedBy, IsQuiescent, IsSoundState, Owed, alike, combined, lifted, nothing, queued}
 use Rattle.ve_machine.specs.SharedLaws.{FinishedTablesAreUnique, QuiescentTablesAreFinished}
 use Rattle.ve_machine.proofs.KnownElements.{Known-alike}
-use Rattle.ve_machine.proofs.SharedLists.{all_here, decide_contains}
+use Rattle.ve_machine.proofs.SharedLists.{decide_contains}
 
 -- two jobs are the same, or not
 
@@ -61,11 +62,6 @@ decide_job (submodule_job a) (image_job c d) = differ_by_kind (submodule_job a) 
 decide_job (image_job a b) (relator_job c d) = differ_by_kind (image_job a b) (relator_job c d) (λ same. omega (arith, same))
 decide_job (image_job a b) (submodule_job c) = differ_by_kind (image_job a b) (submodule_job c) (λ same. omega (arith, same))
 
-abbrev IsEmptyDesk : Desk → Type 0
-IsEmptyDesk empty_desk = Unit {0}
-IsEmptyDesk (with_job job) = ⊥
-IsEmptyDesk (with_relation v) = ⊥
-
 module _ (nothing_left : NothingLeftIsFinished) (S : State) (is_opening : IsOpening S.opening) (sound : IsSoundState S) (covered : IsCovered S) (quiescent : IsQuiescent S) where
   abbrev O : ActionTable
   O = S.opening
@@ -74,7 +70,7 @@ module _ (nothing_left : NothingLeftIsFinished) (S : State) (is_opening : IsOpen
   p = (presented O).prime
 
   no_job_on_desk : (job : Job) → ¬ Contains S.desks (with_job job)
-  no_job_on_desk job there = subst IsEmptyDesk (sym (quiescent.desks there.0 (with_job job) there.1) ∙ there.2) tt
+  no_job_on_desk job there = let none : with_job job ≡ empty_desk = sym there.2 ∙ quiescent.desks there.0 (with_job job) there.1 in cc
 
   -- a job of the level whose id is live is done
   is_done : (job : Job) → IsOfLevel O S.forwards job → HasLiveId S.forwards job → Contains S.done job
@@ -92,7 +88,7 @@ module _ (nothing_left : NothingLeftIsFinished) (S : State) (is_opening : IsOpen
     where
       none_there : (v : Row) → Contains [] v → ⊥
       none_there v found = omega (arith, found.1)
-  owes_nothing (lifted seat v there) = absurd (subst IsEmptyDesk (sym (all_here (λ desk. desk ≡ empty_desk) S.desks seat (with_relation v) there quiescent.desks)) tt)
+  owes_nothing (lifted seat v there) = let none : with_relation v ≡ empty_desk = All-slice_get (λ desk. desk ≡ empty_desk) S.desks seat (with_relation v) there quiescent.desks in absurd cc
   owes_nothing (alike u v same owed) = SameWeights-trans (SameWeights-sym (weights_from_Alike nat_eq Decides-nat_eq p u v same)) (owes_nothing owed)
   owes_nothing (combined c d u v one other) = SameWeights-append {v = []} {s = []} (SameWeights-scaled c (owes_nothing one)) (SameWeights-scaled d (owes_nothing other))
 

@@ -1,27 +1,15 @@
 -- Relators have letters of the presentation alone.
-use Rattle.std.proofs.Common.{◌≡◌, ℕ, suc, ◌+◌, ◌-◌, ◌<◌, ◌≤◌, List, [], ◌∷◌, Option, Some, None, length, All, refl, arith}
-use Rattle.std.specs.Prelude.{slice_get}
+use Rattle.std.proofs.Common.{ℕ, ◌<◌, [], Some, length, All, arith}
 use Rattle.std.proofs.lemmas.Option.{slice_get_within}
-use Rattle.std.proofs.lemmas.List.Elements.{All-nil, All-cons, All-append, All-get_or}
+use Rattle.std.proofs.lemmas.List.Elements.{All-append, All-get_or}
 use Rattle.ve_theory.specs.Elements.{AlgebraElement}
 use Rattle.ve_theory.specs.Presentations.{Presentation, IsPresentation, HasLetters, letter_count, inverse_relators, relators, relator}
-
-inverse_letters : (p n first : ℕ) (inverses : List (Option ℕ)) → first + length inverses ≤ n → ((x y : ℕ) → slice_get inverses x ≡ Some (Some y) → y < n)
-    → All (λ r. All (λ t. All (λ x. x < n) t.0) r) (inverse_relators p first inverses)
-unfolding inverse_relators
-inverse_letters p n first [] l known = All-nil (λ (r : AlgebraElement). All (λ t. All (λ x. x < n) t.0) r)
-inverse_letters p n first (None ∷ rest) l known = inverse_letters p n (first + 1) rest (omega arith) (λ x. known (suc x))
-inverse_letters p n first (Some y ∷ rest) l known =
-    All-cons (λ (r : AlgebraElement). All (λ t. All (λ x. x < n) t.0) r) ((first ∷ y ∷ [], 1) ∷ ([], p - 1) ∷ []) (inverse_relators p (first + 1) rest)
-    (All-cons (λ (t : List ℕ × ℕ). All (λ x. x < n) t.0) (first ∷ y ∷ [], 1) (([], p - 1) ∷ [])
-    (All-cons (λ x. x < n) first (y ∷ []) (omega arith) (All-cons (λ x. x < n) y [] (known 0 y refl) (All-nil (λ x. x < n))))
-    (All-cons (λ (t : List ℕ × ℕ). All (λ x. x < n) t.0) ([], p - 1) [] (All-nil (λ x. x < n)) (All-nil (λ (t : List ℕ × ℕ). All (λ x. x < n) t.0))))
-    (inverse_letters p n (first + 1) rest (omega arith) (λ x. known (suc x)))
+use Rattle.ve_lemmas.proofs.Relators.{inverse_relators_letters}
 
 pub relator_letters : (P : Presentation) → IsPresentation P → (number : ℕ) → number < length (relators P) → All (λ t. HasLetters P t.0) (relator P number)
 relator_letters P V number within =
     All-get_or (λ (r : AlgebraElement). All (λ t. HasLetters P t.0) r) (relators P) number [] within
     (All-append (λ (r : AlgebraElement). All (λ t. HasLetters P t.0) r) (inverse_relators P.prime 0 P.inverses) P.relations
-    (inverse_letters P.prime (letter_count P) 0 P.inverses (omega (arith, V.one_inverse_each))
+    (inverse_relators_letters P.prime (letter_count P) 0 P.inverses (omega (arith, V.one_inverse_each))
     (λ x y e. omega (arith, slice_get_within P.inverses y (Some x) (V.inverses x y e), V.one_inverse_each)))
     (λ k d l. (V.relations k d l).1))

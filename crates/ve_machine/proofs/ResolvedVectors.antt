@@ -1,37 +1,25 @@
 -- Resolved forms of a sound table's vectors: they stand for what the vectors stand for.
-use Rattle.std.proofs.Common.{◌≡◌, ℕ, ◌<◌, ◌≤◌, ◌⊎◌, inl, inr, nat_eq, None, [], ◌∷◌, ◌++◌, length, All, ap, subst, arith}
+use Rattle.std.proofs.Common.{◌≡◌, ℕ, ◌<◌, ◌≤◌, ◌⊎◌, inl, inr, nat_eq, None, length, All, ap, subst, arith}
 use Rattle.std.specs.Prelude.{slice_index_or}
 use Rattle.std.proofs.lemmas.Bool.{cases_lt}
 use Rattle.std.proofs.lemmas.Option.{slice_get_within}
-use Rattle.std.proofs.lemmas.List.Elements.{All-head, All-tail, All-weaker}
-use Rattle.ve_theory.specs.Combinations.{Combination, unit, scaled, difference, extended}
+use Rattle.std.proofs.lemmas.List.Elements.{All-weaker}
+use Rattle.ve_theory.specs.Combinations.{unit, difference, extended}
 use Rattle.ve_theory.specs.Words.{Word, generator}
-use Rattle.ve_theory.specs.Elements.{Element}
-use Rattle.ve_theory.specs.Presentations.{Presentation}
 use Rattle.ve_theory.specs.Derivations.{DerivedWithin}
 use Rattle.ve_theory.specs.Answers.{Row, IsNotAfter}
-use Rattle.ve_theory.proofs.Sums.{SameWeights-refl, SameWeights-sym, SameWeights-trans, SameWeights-append, SameWeights-difference, SameWeights-extended, extended-unit, extended-by_units, extended-extended, extended-difference, difference_vanishes, differences-append, scaled-one, Alike_from_weights}
+use Rattle.ve_theory.proofs.Sums.{SameWeights-refl, SameWeights-sym, SameWeights-trans, SameWeights-difference, SameWeights-extended, extended-unit, extended-by_units, extended-extended, extended-difference, difference_vanishes, differences-append, Alike_from_weights}
 use Rattle.ve_theory.proofs.Remainders.{All-extended}
-use Rattle.ve_theory.proofs.DerivedElements.{DerivedWithin-alike, DerivedWithin-nothing, DerivedWithin-combined}
+use Rattle.ve_theory.proofs.DerivedElements.{DerivedWithin-alike, DerivedWithin-nothing}
 use Rattle.ve_theory.proofs.OrderedRows.{IsNotAfter-trans}
+use Rattle.ve_lemmas.proofs.Derivations.{DerivedWithin-append, DerivedWithin-extended}
+pub use Rattle.ve_lemmas.proofs.Derivations.{DerivedWithin-append as derived_both, DerivedWithin-extended as derived_sum}
 use Rattle.ve_table.specs.Tables.{ActionTable, presented, word_at, element_of, IsLive}
 use Rattle.ve_table.specs.Sound.{IsSound, IsVectorOf}
 use Rattle.ve_machine.specs.Forwards.{stand_in, AreLive, IsForwarding, IsResolved}
 use Rattle.ve_machine.proofs.Forwardings.{positive_prime, are_falling, stands_by, less, forwarding_shown}
 use Rattle.ve_machine.proofs.ReducedSums.{reduced_keys}
 use Rattle.ve_machine.proofs.CarriedRows.{carried, carried_resolved, carried_below}
-
--- sums of what is derived
-
-pub derived_both : (P : Presentation) (k : ℕ) {u v : Element} → DerivedWithin P k u → DerivedWithin P k v → DerivedWithin P k (u ++ v)
-derived_both P k {u} {v} one other = DerivedWithin-alike P k (SameWeights-append (scaled-one P.prime u) (scaled-one P.prime v)) (DerivedWithin-combined P k 1 1 one other)
-
-pub derived_sum : {K : Type 0} (P : Presentation) (k : ℕ) (f : K → Element) (v : Combination K) → All (λ t. DerivedWithin P k (f t.0)) v → DerivedWithin P k (extended f v)
-unfolding extended
-derived_sum P k f [] all = DerivedWithin-nothing P k
-derived_sum {K} P k f (t ∷ v) all =
-    DerivedWithin-alike P k (SameWeights-append (SameWeights-refl P.prime (scaled t.1 (f t.0))) (scaled-one P.prime (extended f v)))
-    (DerivedWithin-combined P k t.1 1 (All-head (λ (s : K × ℕ). DerivedWithin P k (f s.0)) t v all) (derived_sum P k f v (All-tail (λ (s : K × ℕ). DerivedWithin P k (f s.0)) t v all)))
 
 module _ (T : ActionTable) (sound : IsSound T) where
   -- an id, less what stands for it, is derived
@@ -50,7 +38,7 @@ module _ (T : ActionTable) (sound : IsSound T) where
       (SameWeights-trans (SameWeights-sym (extended-extended (presented T).prime (λ j. unit (word_at T j)) (less (presented T).prime T.forwards) forwarding.by))
       (SameWeights-extended (λ j. unit (word_at T j))
       (SameWeights-sym (forwarding_shown (presented T).prime T.forwards v forwarding))))
-      (derived_sum (presented T) T.level (λ b. element_of T (less (presented T).prime T.forwards b)) forwarding.by (λ k t inside. one (slice_index_or forwarding.by k t).0))
+      (DerivedWithin-extended (presented T) T.level (λ b. element_of T (less (presented T).prime T.forwards b)) forwarding.by (λ k t inside. one (slice_index_or forwarding.by k t).0))
     where
       one : (b : ℕ) → DerivedWithin (presented T) T.level (element_of T (difference (presented T).prime (unit b) (stand_in T.forwards b)))
       one b =
@@ -83,7 +71,7 @@ module _ (T : ActionTable) (sound : IsSound T) where
       row = (resolved.reduced, live_within w resolved.live);
       derived = DerivedWithin-alike (presented T) T.level
           (differences-append (presented T).prime (unit u) (element_of T v) (element_of T w) (positive_prime T sound))
-          (derived_both (presented T) T.level is.stands.derived (resolved_derived v w resolved));
+          (DerivedWithin-append (presented T) T.level is.stands.derived (resolved_derived v w resolved));
     };
     not_after = reduced_keys (λ j. (j < length T.words) × IsNotAfter (presented T) (word_at T j) u) (presented T).prime w (extended standing v)
         (record {

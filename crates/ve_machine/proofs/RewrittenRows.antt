@@ -7,12 +7,13 @@ use Rattle.ve_theory.specs.Answers.{Row, IsNotAfter}
 use Rattle.ve_theory.proofs.Sums.{SameWeights-difference, SameWeights-refl, SameWeights-sym, differences-append, extended-difference}
 use Rattle.ve_theory.proofs.Remainders.{All-extended}
 use Rattle.ve_theory.proofs.DerivedElements.{DerivedWithin-alike}
+use Rattle.ve_lemmas.proofs.Derivations.{DerivedWithin-append}
 use Rattle.ve_table.specs.Tables.{ActionTable, element_of, presented, word_at}
 use Rattle.ve_table.specs.Sound.{IsSound, IsVectorOf}
 use Rattle.ve_machine.specs.Forwards.{IsRewritten, stand_in}
 use Rattle.ve_machine.proofs.Forwardings.{IsForwarding-alike, are_falling, positive_prime, stands_below, vector_less_stand_ins}
 use Rattle.ve_machine.proofs.ReducedSums.{reduced_keys, reduced_same}
-use Rattle.ve_machine.proofs.ResolvedVectors.{derived_both, forwarding_derived, lower_not_after}
+use Rattle.ve_machine.proofs.ResolvedVectors.{forwarding_derived, lower_not_after}
 
 pub rewritten_vector : (T : ActionTable) → IsSound T → (w : Word) (v next : Row) → IsVectorOf T w v → IsRewritten (presented T).prime T.forwards v next → IsVectorOf T w next
 rewritten_vector T sound w v next is rewritten = record {
@@ -20,7 +21,7 @@ rewritten_vector T sound w v next is rewritten = record {
     row = (rewritten.reduced, keys (λ n. n < length T.words) (λ i j le within. omega (arith, le, within)) is.stands.row.1);
     derived = DerivedWithin-alike (presented T) T.level
         (differences-append p (unit w) (element_of T v) (element_of T next) (positive_prime T sound))
-        (derived_both (presented T) T.level is.stands.derived
+        (DerivedWithin-append (presented T) T.level is.stands.derived
         (DerivedWithin-alike (presented T) T.level (extended-difference p (λ j. unit (word_at T j)) v next)
         (forwarding_derived T sound (difference p v next)
         (IsForwarding-alike p T.forwards

@@ -6,6 +6,7 @@ use Rattle.std.proofs.lemmas.Bool.{cases_eq}
 use Rattle.std.proofs.lemmas.List.Elements.{All-weaker}
 use Rattle.ve_theory.specs.Combinations.{difference, IsReducedOf}
 use Rattle.ve_theory.specs.Answers.{Row}
+use Rattle.ve_lemmas.proofs.Lists.{All-slice_get}
 use Rattle.ve_table.specs.Tables.{ActionTable, presented}
 use Rattle.ve_table.proofs.Entries.{same_some}
 use Rattle.ve_machine.specs.Forwards.{Forwards}
@@ -20,7 +21,7 @@ use Rattle.ve_machine.specs.ImageHands.{IsHandOfRelation, IsLifted, IsRightHand}
 use Rattle.ve_machine.specs.Machines.{AreRightHands}
 use Rattle.ve_machine.proofs.Forwardings.{are_falling, forwarded_on, positive_prime}
 use Rattle.ve_machine.proofs.ReducedSums.{reduced_keys}
-use Rattle.ve_machine.proofs.SharedLists.{all_here, set_else, set_here}
+use Rattle.ve_machine.proofs.SharedLists.{set_else, set_here}
 use Rattle.ve_machine.proofs.KeptKnown.{forwarding_turned}
 use Rattle.ve_machine.proofs.FoundVectors.{found_right, read_kept, reduced_forwarding, repaired_forwarding, repaired_ids}
 use Rattle.ve_machine.proofs.ElementHands as element
@@ -160,7 +161,7 @@ desk_and_hand O old new keeps positive desks hands sound right seat before desk 
     cases (inr differ) =
         let on_desk : slice_get desks other ≡ Some found = sym (set_else desks seat other desk differ) ∙ found_is in
         let there = right other found on_desk in
-        (there.0, set_else hands seat other hand differ ∙ there.1, hand_kept O old new keeps positive found there.0 (all_here (IsSoundDesk O old) desks other found on_desk sound) there.2)
+        (there.0, set_else hands seat other hand differ ∙ there.1, hand_kept O old new keeps positive found there.0 (All-slice_get (IsSoundDesk O old) desks other found on_desk sound) there.2)
 
 -- a hand alone changes
 pub hand_alone : (O : ActionTable) (forwards : Forwards) (desks : List Desk) (hands : List Hand) → AreRightHands O forwards desks hands → (seat : ℕ) (before hand : Hand) → slice_get hands seat ≡ Some before

@@ -1,14 +1,15 @@
 -- The rows of a table under way: they stand where the opening's do, differ from them by forwards, and reach no further than their products.
-use Rattle.std.proofs.Common.{◌≡◌, ℕ, ◌+◌, ◌<◌, ◌≤◌, inl, inr, Some, None, [], length, All, refl, sym, ap, subst, ◌∙◌, slice_index_or, arith}
+use Rattle.std.proofs.Common.{◌≡◌, ℕ, ◌+◌, ◌<◌, ◌≤◌, Some, None, [], length, All, refl, sym, subst, ◌∙◌, slice_index_or, arith}
 use Rattle.std.specs.Prelude.{Option, IsSome, unwrap_or}
 use Rattle.std.proofs.lemmas.List.Elements.{All-nil, All-weaker}
 use Rattle.ve_theory.specs.Combinations.{unit, difference, extended}
 use Rattle.ve_theory.specs.Words.{Word, times}
-use Rattle.ve_theory.specs.Presentations.{Presentation, reach, step}
+use Rattle.ve_theory.specs.Presentations.{reach, step}
 use Rattle.ve_theory.specs.Answers.{Row, IsNotAfter, IsRowUpTo}
 use Rattle.ve_theory.proofs.Sums.{weigh-append, weigh-scaled, SameWeights, SameWeights-refl, differences-extended}
 use Rattle.ve_theory.proofs.DerivedElements.{SameWeights-equal}
-use Rattle.ve_theory.proofs.Orders.{before_reach, reach-times}
+use Rattle.ve_theory.proofs.Orders.{reach-times}
+use Rattle.ve_theory.proofs.OrderedRows.{IsNotAfter-reach}
 use Rattle.ve_vec.specs.Tracing.{row_or_zero}
 use Rattle.ve_table.specs.Tables.{ActionTable, presented, word_at, row_at, on_words, element_of, IsDue}
 use Rattle.ve_table.specs.Sound.{IsSound}
@@ -20,16 +21,12 @@ use Rattle.ve_machine.proofs.Forwardings.{IsForwarding-alike, IsForwarding-chain
 use Rattle.ve_machine.proofs.KnownElements.{known_on, known_forwarded}
 use Rattle.ve_machine.proofs.UnderWay.{under_way_positive, at_work_sound}
 
-not_after_reach : (P : Presentation) (v w : Word) → IsNotAfter P v w → reach P v ≤ reach P w
-not_after_reach P v w (inl earlier) = before_reach P v w earlier
-not_after_reach P v w (inr same) = omega (arith, ap (reach P) same)
-
 -- the ids of a vector up to a word
 pub ids_up_to : (O : ActionTable) (w : Word) (v : Row) → IsRowUpTo (presented O) (on_words O.words) w v
     → All (λ t. (t.0 < length O.words) × (reach (presented O) (word_at O t.0) ≤ reach (presented O) w)) v
 ids_up_to O w v up_to =
     All-weaker (λ (t : ℕ × ℕ). (t.0 < length O.words) × IsNotAfter (presented O) (word_at O t.0) w) (λ (t : ℕ × ℕ). (t.0 < length O.words) × (reach (presented O) (word_at O t.0) ≤ reach (presented O) w))
-    (λ t is. (is.0, not_after_reach (presented O) (word_at O t.0) w is.1)) v up_to
+    (λ t is. (is.0, IsNotAfter-reach (presented O) (word_at O t.0) w is.1)) v up_to
 
 -- differences of differences
 pub differences_crossed : (p : ℕ) (a b c d : Row) → SameWeights p (difference p (difference p a b) (difference p c d)) (difference p (difference p a c) (difference p b d))

@@ -1,5 +1,5 @@
 -- What lists have after a write, a removal and at an end.
-use Rattle.std.proofs.Common.{◌≡◌, ◌≢◌, ℕ, zero, suc, ◌+◌, ◌-◌, ◌<◌, ◌≤◌, ◌⊎◌, inl, inr, Some, List, [], ◌∷◌, length, take, drop, remove, get_or, All, Contains, refl, sym, ap, subst, ◌∙◌, arith}
+use Rattle.std.proofs.Common.{◌≡◌, ◌≢◌, ℕ, zero, suc, ◌+◌, ◌-◌, ◌<◌, ◌≤◌, ◌⊎◌, inl, inr, Some, List, [], ◌∷◌, length, take, drop, remove, get_or, All, Contains, refl, sym, ap, ◌∙◌, arith}
 use Rattle.std.proofs.Math.ListN.{set}
 use Rattle.std.specs.Prelude.{slice_get}
 use Rattle.std.proofs.lemmas.Bool.{cases_eq, cases_lt}
@@ -18,10 +18,6 @@ pub set_here : {X : Type 0} (xs : List X) (i : ℕ) (old new : X) → slice_get 
 set_here [] i old new is = absurd (none-some old is)
 set_here (x ∷ xs) zero old new is = refl
 set_here (x ∷ xs) (suc i) old new is = set_here xs i old new is
-
--- what holds of all elements
-pub all_here : {X : Type 0} (P : X → Type 0) (xs : List X) (i : ℕ) (x : X) → slice_get xs i ≡ Some x → All P xs → P x
-all_here P xs i x is all = subst P (get_or_from_slice_get xs i x x is) (all i x (slice_get_within xs i x is))
 
 pub all_but : {X : Type 0} (P : X → Type 0) (xs : List X) (place : ℕ) → All P xs → All P (remove xs place)
 all_but P xs place all = All-append P (take place xs) (drop (suc place) xs) (All-take P place xs all) (All-drop P (suc place) xs all)
@@ -59,11 +55,3 @@ decide_contains decide (x ∷ xs) y = first (decide x y) (decide_contains decide
         missing : (k : ℕ) → k < length (x ∷ xs) → get_or (x ∷ xs) k y ≡ y → ⊥
         missing zero less same = other same
         missing (suc k) less same = absent (k, omega (arith, less), same)
-
--- the first element, or a later one
-pub contains_first : {X : Type 0} (x : X) (xs : List X) (y : X) → Contains (x ∷ xs) y → (x ≡ y) ⊎ Contains xs y
-contains_first x xs y found = cases found.0 found.1 found.2
-  where
-    cases : (k : ℕ) → k < length (x ∷ xs) → get_or (x ∷ xs) k y ≡ y → (x ≡ y) ⊎ Contains xs y
-    cases zero less same = inl same
-    cases (suc k) less same = inr (k, omega (arith, less), same)

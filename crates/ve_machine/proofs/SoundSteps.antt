@@ -10,6 +10,7 @@ use Rattle.ve_theory.specs.Laws.{HasInverses, LevelsAreClosed}
 use Rattle.ve_theory.proofs.Sums.{extended-difference}
 use Rattle.ve_theory.specs.Combinations.{unit}
 use Rattle.ve_theory.proofs.DerivedElements.{DerivedWithin-alike}
+use Rattle.ve_lemmas.proofs.Lists.{All-slice_get}
 use Rattle.ve_table.specs.Tables.{ActionTable, element_of, presented, word_at}
 use Rattle.ve_table.specs.Sound.{IsSound}
 use Rattle.ve_table.proofs.Killing.{sound_killed}
@@ -23,7 +24,7 @@ use Rattle.ve_machine.specs.Covered.{IsRelation, IsSoundDesk, IsSoundState}
 use Rattle.ve_machine.specs.SharedLaws.{KeepsKnown, StepsKeepKnown, StepsKeepSound}
 use Rattle.ve_machine.proofs.Forwardings.{positive_prime}
 use Rattle.ve_machine.proofs.ResolvedVectors.{forwarding_derived}
-use Rattle.ve_machine.proofs.SharedLists.{all_but, all_here}
+use Rattle.ve_machine.proofs.SharedLists.{all_but}
 use Rattle.ve_machine.proofs.KeptKnown.{forwarding_turned, kept_where_id_dies, kept_where_same, level_kept}
 use Rattle.ve_machine.proofs.DerivedComings.{coming_derived, derived_rest}
 use Rattle.ve_machine.proofs.DrawnForwards.{drawn_forward, drawn_holds}
@@ -57,7 +58,7 @@ module _ (inverses : HasInverses) (closed : LevelsAreClosed) (S : State) (seat :
   desks_with desk is = All-set (IsSoundDesk O S.forwards) S.desks seat desk is sound.desks
 
   on_desk : (desk : Desk) → HasDesk S seat desk → IsSoundDesk O S.forwards desk
-  on_desk desk is = all_here (IsSoundDesk O S.forwards) S.desks seat desk is sound.desks
+  on_desk desk is = All-slice_get (IsSoundDesk O S.forwards) S.desks seat desk is sound.desks
 
   -- a vector that is a relation but for forwards
   changed_relation : (v : Row) → HasRelation S seat v → IsRelation O v
@@ -123,7 +124,7 @@ module _ (inverses : HasInverses) (closed : LevelsAreClosed) (S : State) (seat :
     table = sound.table;
     done = sound.done;
     queue = all_but (IsRelation O) S.queue place sound.queue;
-    desks = desks_with (with_relation v) (all_here (IsRelation O) S.queue place v can.queued sound.queue);
+    desks = desks_with (with_relation v) (All-slice_get (IsRelation O) S.queue place v can.queued sound.queue);
   }
   sound_after T (drops can) = with_desks empty_desk tt
   sound_after T (deletes v id forward can drawn) = after_death v id forward can drawn
