@@ -8,12 +8,14 @@ use Rattle.std.proofs.lemmas.List.Sums.{sum_by_push}
 use Rattle.ve_theory.specs.Elements.{AlgebraElement, Element}
 use Rattle.ve_theory.specs.Presentations.{inverse_relators}
 use Rattle.ve_theory.specs.Validity.{cells, algebra_cells, element_cells}
+use Rattle.ve_lemmas.proofs.Relators.{inverse_cells}
 use Rattle.ve_formats.specs.Lines.{numbers_below, numbers_below-next}
+use Rattle.ve_formats.proofs.NumbersBelow.{length-numbers_below}
 use Rattle.ve_pres.specs.Drafts.{Draft, bare_draft, with_relator, with_submodule_relation}
 use Rattle.ve_make.specs.Symmetric.{swap_name, order_relation, relations_of_swap, order_relations, fixing_relation, fixing_relations, is_fixing}
 use Rattle.ve_make.specs.Parts.{swaps_draft, HasRoom}
-use Rattle.ve_make.proofs.Rooms.{order_cells, fixing_cells, swap_cells}
-use Rattle.ve_make.proofs.Swaps.{listed-next, length-numbers_below}
+use Rattle.ve_make.proofs.Rooms.{order_cells, fixing_cells}
+use Rattle.ve_make.proofs.Swaps.{listed-next}
 
 -- ---- room
 
@@ -44,7 +46,7 @@ more_room draft count more h room =
 
 pub first_room : (p n : ℕ) → n ≤ 24 → HasRoom 0 (swaps_draft p n [] [])
 first_room p n small =
-    let few = swap_cells p 0 (map Some (numbers_below n)) in
+    let few = inverse_cells p 0 (map Some (numbers_below n)) in
     let count : length (map Some (numbers_below n)) ≡ n = length-map (numbers_below n) Some ∙ length-numbers_below n in
     let none = append-nil (inverse_relators p 0 (map Some (numbers_below n))) in
     record { counted = omega arith; cells_taken = rw none (omega arith) }

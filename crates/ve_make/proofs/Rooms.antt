@@ -1,15 +1,14 @@
 -- Relations that there is room for, and what the presentation is with them.
-use Rattle.std.specs.Prelude.{◌≡◌, ℕ, zero, suc, ◌+◌, ◌-◌, ◌*◌, ◌<◌, ◌≤◌, Bool, List, [], ◌∷◌, ◌++◌, length, map, replicate, Option, Some, None, nat_eq, All, IsFalse, IsTrue, sum_by, slice_get, Contains, codes, decimal}
+use Rattle.std.specs.Prelude.{◌≡◌, ℕ, zero, suc, ◌+◌, ◌-◌, ◌<◌, ◌≤◌, Bool, [], ◌∷◌, ◌++◌, length, map, replicate, nat_eq, All, IsFalse, IsTrue, slice_get, Contains, codes, decimal}
 use Rattle.std.specs.List.{concat, filter, flat_map}
 use Rattle.std.proofs.Common.{refl, ap, sym, subst, ◌∙◌, inl, inr, arith, add-one, length-append, append-nil, append_assoc}
 use Rattle.std.proofs.lemmas.Bool.{cond_both}
 use Rattle.std.proofs.lemmas.Bool.Decides.{when_false}
 use Rattle.std.proofs.lemmas.List.{length-map, map-append}
 use Rattle.std.proofs.lemmas.List.Elements.{All-nil, All-cons}
-use Rattle.std.proofs.lemmas.List.Sums.{sum_by-cons}
 use Rattle.ve_theory.specs.Words.{generator, times, letters, start, word_length}
 use Rattle.ve_theory.specs.Elements.{AlgebraElement, Element}
-use Rattle.ve_theory.specs.Presentations.{Presentation, HasLetters, IsWord, inverse_relators}
+use Rattle.ve_theory.specs.Presentations.{Presentation, HasLetters, IsWord}
 use Rattle.ve_theory.specs.Validity.{cells, algebra_cells, element_cells, most_cells}
 use Rattle.ve_formats.specs.Lines.{numbers_below, numbers_below-next}
 use Rattle.ve_pres.specs.Drafts.{Draft, TakesRelation, TakesSubmoduleRelation, IsRelationFault, IsSubmoduleRelationFault, with_relator, with_submodule_relation}
@@ -49,15 +48,6 @@ order_cells p x y =
 pub fixing_cells : (p x : ℕ) → element_cells (fixing_relation p x) ≤ 8
 unfolding letters
 fixing_cells p x = omega arith
-
-pub swap_cells : (p x : ℕ) (inverses : List (Option ℕ)) → sum_by algebra_cells (inverse_relators p x inverses) ≤ 4 * length inverses
-unfolding inverse_relators
-swap_cells p x [] = omega arith
-swap_cells p x (None ∷ rest) = let more = swap_cells p (x + 1) rest in omega arith
-swap_cells p x (Some y ∷ rest) =
-    let more = swap_cells p (x + 1) rest in
-    let first = sum_by-cons algebra_cells ((x ∷ y ∷ [], 1) ∷ ([], p - 1) ∷ []) (inverse_relators p (x + 1) rest) in
-    omega (arith, first)
 
 -- ---- what is taken
 

@@ -1,7 +1,7 @@
 -- The swaps: their names, and what the presentation is with them.
 use Rattle.std.specs.Prelude.{◌≡◌, ◌≢◌, ℕ, zero, suc, ◌+◌, ◌-◌, ◌*◌, ◌^◌, ◌<◌, ◌≤◌, ◌⊎◌, Bool, true, false, ◌&&◌, ◌||◌, List, [], ◌∷◌, ◌++◌, length, map, Option, Some, None, option_map, nat_eq, IsTrue, slice_get, codes, decimal}
 use Rattle.std.specs.List.{list_all}
-use Rattle.std.proofs.Common.{refl, ap, sym, subst, ◌∙◌, inl, inr, arith, length-append, get_or}
+use Rattle.std.proofs.Common.{refl, ap, sym, subst, ◌∙◌, inl, inr, arith, get_or}
 use Rattle.std.proofs.Math.Bool.{or-true}
 use Rattle.std.proofs.lemmas.Bool.{and_parts, cases_lt}
 use Rattle.std.proofs.lemmas.Fmt.{decimal_injective}
@@ -10,6 +10,8 @@ use Rattle.std.proofs.lemmas.Option.{slice_get_within, get_or_from_slice_get}
 use Rattle.ve_theory.specs.Validity.{is_name, is_name_letter, is_digit, is_rooted}
 use Rattle.ve_formats.specs.Tokens.{is_number}
 use Rattle.ve_formats.specs.Lines.{numbers_below, numbers_below-next}
+use Rattle.ve_formats.proofs.Decimals.{number_digits}
+use Rattle.ve_formats.proofs.NumbersBelow.{length-numbers_below, number_at}
 use Rattle.ve_pres.specs.Drafts.{Draft, IsNameFault, with_letters}
 use Rattle.ve_word.specs.declared.names.NameFault.{NameFault}
 use Rattle.ve_word.specs.declared.names.NameFault.TheVariants.{Rooted, Taken, Full, Memory}
@@ -18,28 +20,11 @@ use Rattle.ve_make.specs.Parts.{swaps_draft}
 
 -- ---- lists over the numbers below n
 
-pub length-numbers_below : (n : ℕ) → length (numbers_below n) ≡ n
-unfolding numbers_below
-length-numbers_below zero = refl
-length-numbers_below (suc n) = omega (arith, length-append (numbers_below n) (n ∷ []), length-numbers_below n)
-
-get_or-numbers_below : (n j d : ℕ) → j < n → get_or (numbers_below n) j d ≡ j
-unfolding numbers_below
-get_or-numbers_below zero j d l = absurd (omega arith)
-get_or-numbers_below (suc n) j d l = cases (get_or-numbers_below n j d) (cases_lt j n)
-  where
-    cases : (j < n → get_or (numbers_below n) j d ≡ j) → (j < n) ⊎ (n ≤ j) → get_or (numbers_below n ++ n ∷ []) j d ≡ j
-    cases earlier (inl m) = get_or_append_left (numbers_below n) (n ∷ []) d j (omega (arith, length-numbers_below n)) ∙ earlier m
-    cases earlier (inr m) =
-        let same : j ≡ n = omega arith in
-        let first : j - n ≡ 0 = omega arith in
-        get_or-append_right (numbers_below n) (n ∷ []) n j d (length-numbers_below n) m ∙ (ap (λ i. get_or (n ∷ []) i d) first ∙ sym same)
-
 length-listed : {X : Type 0} (f : ℕ → X) (n : ℕ) → length (map f (numbers_below n)) ≡ n
 length-listed f n = length-map (numbers_below n) f ∙ length-numbers_below n
 
 get_or-listed : {X : Type 0} (f : ℕ → X) (n j : ℕ) (d : X) → j < n → get_or (map f (numbers_below n)) j d ≡ f j
-get_or-listed f n j d l = get_or-map f (numbers_below n) j 0 d (omega (arith, length-numbers_below n)) ∙ ap f (get_or-numbers_below n j 0 l)
+get_or-listed f n j d l = get_or-map f (numbers_below n) j 0 d (omega (arith, length-numbers_below n)) ∙ ap f (number_at n j l)
 
 pub listed-next : {X : Type 0} (f : ℕ → X) (n : ℕ) → map f (numbers_below n) ++ f n ∷ [] ≡ map f (numbers_below (n + 1))
 listed-next f n = sym (ap (map f) (numbers_below-next n) ∙ map-append f (numbers_below n) (n ∷ []))
@@ -52,10 +37,6 @@ name_parts (d ∷ ds) h =
     let parts = and_parts (is_digit d) (list_all is_digit ds) h in
     let first : (is_name_letter d || is_digit d) ≡ true = ap (λ b. is_name_letter d || b) parts.0 ∙ or-true (is_name_letter d) in
     ap (λ b. b && list_all (λ c. is_name_letter c || is_digit c) ds) first ∙ name_parts ds parts.1
-
-number_digits : (ds : List ℕ) → IsTrue (is_number ds) → IsTrue (list_all is_digit ds)
-number_digits [] h = refl
-number_digits (d ∷ ds) h = h
 
 s_name : (ds : List ℕ) → IsTrue (list_all is_digit ds) → IsTrue (is_name (115 ∷ ds))
 unfolding is_name
