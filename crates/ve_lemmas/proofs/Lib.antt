@@ -1,5 +1,6 @@
 -- Lemmas that several crates cite, by theme. What the laws of `ve_theory` need stands there and is handed on from here.
 pub mod Lists
+pub mod InPlace
 pub mod Residues
 pub mod Words
 pub mod Orders

@@ -12,6 +12,7 @@ mod Merging
 mod MergeSteps
 mod MovedMerges
 mod Products
+mod Negatives
 mod PowerSteps
 mod InAlgebra
 -- ---- weights and limits

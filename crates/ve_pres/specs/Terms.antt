@@ -1,5 +1,5 @@
 -- Terms, as the values of this crate hold them.
-use Rattle.std.specs.Prelude.{◌≡◌, ℕ, ◌<◌, ◌≤◌, ◌%◌, List, map, length, All}
+use Rattle.std.specs.Prelude.{◌≡◌, ℕ, ◌-◌, ◌<◌, ◌≤◌, ◌%◌, List, map, length, All}
 use Rattle.ve_theory.specs.Combinations.{Combination, IsReduced}
 use Rattle.ve_theory.specs.Words.{letters, start, Shortlex, word_length}
 use Rattle.ve_theory.specs.Elements.{Element, AlgebraElement}
@@ -13,6 +13,10 @@ pairs terms = map (λ term. (term.word, term.coef)) terms
 -- each coefficient replaced by its residue
 abbrev pub residues : {K : Type 0} → ℕ → Combination K → Combination K
 residues p v = map (λ t. (t.0, t.1 % p)) v
+
+-- each coefficient replaced by the residue that makes zero with it
+abbrev pub negatives : ℕ → Element → Element
+negatives p v = map (λ t. (t.0, (p - t.1) % p)) v
 
 -- An element within the limits: terms in strictly falling shortlex order, with coefficients other than 0, below some bound.
 pub record IsKept (v : Element) : Type 0 where

@@ -92,6 +92,17 @@ impl FreeAlg {
         Ok(FreeAlg { element })
     }
 
+    /// The negative, which moves the terms.
+    pub fn negated(self, field: &Field) -> FreeAlg
+        requires residues { IsReduced ShortlexLetters field.now self }
+        ensures negative { IsAlgebraElementOf field.now result (scaled (field.now - 1) self) }
+        ensures letters { (n : ℕ) → HasLettersBelow n self → HasLettersBelow n result }
+    {
+        FreeAlg {
+            element: self.element.negated(field),
+        }
+    }
+
     /// The sum. Its number of terms is judged before terms of one word are added up.
     pub fn add(&self, field: &Field, other: &FreeAlg) -> Result<FreeAlg, PresFault>
         requires left { IsReduced ShortlexLetters field.now self.now }

@@ -1,6 +1,6 @@
 //! Elements of the free module.
 
-ghost use Rattle.std.specs.Prelude.{◌≡◌, ℕ, ◌+◌, ◌*◌, ◌<◌, ◌≤◌, [], ◌∷◌, ◌++◌, All, IfOk, OnOk, length, slice_index_or};
+ghost use Rattle.std.specs.Prelude.{◌≡◌, ℕ, ◌+◌, ◌-◌, ◌*◌, ◌<◌, ◌≤◌, [], ◌∷◌, ◌++◌, All, IfOk, OnOk, length, slice_index_or};
 ghost use Rattle.ve_theory.specs.Combinations.{IsReduced, scaled, unit};
 ghost use Rattle.ve_theory.specs.Words.{Shortlex, generator, letters, word_length};
 ghost use Rattle.ve_theory.specs.Elements.{IsElementOf, algebra_length, element_length, element_times, element_weight, word_times};
@@ -13,7 +13,7 @@ ghost use Rattle.ve_pres.specs.Terms.{HasLettersBelow, HasWordsBelow, IsKept, Is
 use crate::FreeAlg;
 use crate::limit::{PresFault, check_product, check_sum};
 use crate::merge::{merge, merge_moved, push_copies};
-use crate::term::{Term, gather, times_letters};
+use crate::term::{Term, gather, negate, times_letters};
 use crate::weights::letters_weight;
 use std::alloc::Global;
 use std::marker::Model;
@@ -108,6 +108,17 @@ impl FreeMod {
         let mut terms = Vec::with_capacity(alloc, self.terms.len())?;
         self.push_scaled(field, by, &mut terms)?;
         FreeMod::from_terms(alloc, field, terms)
+    }
+
+    /// The negative, which moves the terms.
+    pub fn negated(self, field: &Field) -> FreeMod
+        requires residues { IsReduced Shortlex field.now self }
+        ensures negative { IsElementOf field.now result (scaled (field.now - 1) self) }
+        ensures words { (m n : ℕ) → HasWordsBelow m n self → HasWordsBelow m n result }
+    {
+        let mut terms = self.terms;
+        negate(terms.as_mut_slice(), field);
+        FreeMod { terms }
     }
 
     /// The sum. Its number of terms is judged before terms of one word are added up.

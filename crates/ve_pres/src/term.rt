@@ -4,7 +4,7 @@ ghost use Rattle.std.specs.Prelude.{◌≡◌, ◌≢◌, ◌+◌, ◌≤◌, �
 ghost use Rattle.ve_theory.specs.Combinations.{IsReduced};
 ghost use Rattle.ve_theory.specs.Words.{Shortlex, times_all};
 ghost use Rattle.ve_theory.specs.Elements.{IsElementOf};
-ghost use Rattle.ve_pres.specs.Terms.{pairs};
+ghost use Rattle.ve_pres.specs.Terms.{negatives, pairs};
 ghost use Rattle.ve_pres.specs.Gathering.{AtLeast, Gathers, IsReady};
 ghost use Rattle.ve_pres.specs.declared.term.Term.{Term as TermValue};
 
@@ -28,6 +28,16 @@ impl Term {
             word: self.word.copy()?,
             coef: self.coef,
         })
+    }
+}
+
+/// Puts the negative of each coefficient in its place.
+pub(crate) fn negate(terms: &mut [Term], field: &Field)
+    requires { All (λ t. t.1 < field.now) (pairs terms.old) }
+    ensures { pairs terms.new ≡ negatives field.now (pairs terms.old) }
+{
+    for term in terms {
+        term.coef = field.neg(term.coef);
     }
 }
 

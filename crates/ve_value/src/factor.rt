@@ -200,8 +200,7 @@ impl Pending {
     {
         let term = times(presentation, self.product, factor)?;
         if self.is_negative {
-            let term = negative(presentation, &term)?;
-            joined(presentation, self.sum, term)
+            joined(presentation, self.sum, negative(presentation, term))
         } else {
             joined(presentation, self.sum, term)
         }
@@ -209,12 +208,11 @@ impl Pending {
 }
 
 /// The negative of a value.
-pub(crate) fn negative(presentation: &Presentation, value: &FreeAlg) -> Result<FreeAlg, ValueFault>
-    requires { IsReduced ShortlexLetters presentation.now.presentation.prime value.now }
-    ensures { MatchResult result (IsNegative presentation.now.presentation.prime value.now) (λ why. why ≡ ValueFault.Memory) }
+pub(crate) fn negative(presentation: &Presentation, value: FreeAlg) -> FreeAlg
+    requires { IsReduced ShortlexLetters presentation.now.presentation.prime value }
+    ensures { IsNegative presentation.now.presentation.prime value result }
 {
-    let field = presentation.field();
-    Ok(value.scale(field, field.prime() - 1)?)
+    value.negated(presentation.field())
 }
 
 // The product where there is one, times a factor.

@@ -63,8 +63,7 @@ impl ModulePending {
             → IsModuleWorth presentation.now.presentation m term → GivesModule presentation.now.presentation (joins m) result }
     {
         if self.is_negative {
-            let term = negative(presentation, &term)?;
-            joined(presentation, self.sum, term)
+            joined(presentation, self.sum, negative(presentation, term))
         } else {
             joined(presentation, self.sum, term)
         }
@@ -334,12 +333,11 @@ fn joined(
 }
 
 // The negative of a value.
-fn negative(presentation: &Presentation, value: &FreeMod) -> Result<FreeMod, ValueFault>
-    requires { IsReduced Shortlex presentation.now.presentation.prime value.now }
-    ensures { MatchResult result (IsModuleNegative presentation.now.presentation.prime value.now) (λ why. why ≡ ValueFault.Memory) }
+fn negative(presentation: &Presentation, value: FreeMod) -> FreeMod
+    requires { IsReduced Shortlex presentation.now.presentation.prime value }
+    ensures { IsModuleNegative presentation.now.presentation.prime value result }
 {
-    let field = presentation.field();
-    Ok(value.scale(field, field.prime() - 1)?)
+    value.negated(presentation.field())
 }
 
 /// The value of tokens that are an expression of the module.
@@ -376,6 +374,6 @@ pub fn module_difference_of(
     let left = module_value_of(alloc, presentation, left)?;
     let right = module_value_of(alloc, presentation, right)?;
     let field = presentation.field();
-    let opposite = negative(presentation, &right)?;
+    let opposite = negative(presentation, right);
     Ok(left.plus(field, opposite)?)
 }

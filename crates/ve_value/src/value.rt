@@ -286,6 +286,6 @@ pub fn difference_of(
     let left = value_of(alloc, presentation, left)?;
     let right = value_of(alloc, presentation, right)?;
     let field = presentation.field();
-    let opposite = negative(presentation, &right)?;
+    let opposite = negative(presentation, right);
     Ok(left.plus(field, opposite)?)
 }

@@ -9,11 +9,11 @@ returns-in_err-term c = λ frame e h k.
     rw (failed.1, failed.2)
     (tells_more _ _ (λ cause faulty. joins_passes _ _ _ _ h.sum _ cause faulty) _ (times_gives _ _ _ _ _ (Err _) h.product k c.in_err-term.ensures))
 
-pub returns-in_ok-term-2 : goal.returns-in_ok-term-2
-returns-in_ok-term-2 c = λ frame e h k.
+pub returns-then-self : goal.returns-then-self
+returns-then-self c = λ frame e h k.
     let worth = times_gives _ _ _ _ _ (Ok c.in_ok-term.term) h.product k c.in_ok-term.ensures in
     let sum = rw c.if-self.true at h.sum in
-    subtracted_gives _ _ _ _ _ _ _ sum worth c.in_ok-term-2.ensures c.joined.ensures
+    subtracted_gives _ _ _ _ _ _ _ sum worth c.negative.ensures c.joined.ensures
 
 pub returns-else-self : goal.returns-else-self
 returns-else-self c = λ frame e h k.

@@ -1,10 +1,10 @@
 use Rattle.ve_value.proofs.ModuleJoining.{term_added, term_subtracted}
 use Rattle.ve_value.proofs.module_value.ModulePending.total.Goals as goal
 
-pub returns-in_ok-term : goal.returns-in_ok-term
-returns-in_ok-term c = λ joins m h worth.
+pub returns-then-self : goal.returns-then-self
+returns-then-self c = λ joins m h worth.
     let sum = rw c.if-self.true at h in
-    term_subtracted _ _ _ _ _ _ _ sum worth c.in_ok-term.ensures c.joined.ensures
+    term_subtracted _ _ _ _ _ _ _ sum worth c.negative.ensures c.joined.ensures
 
 pub returns-else-self : goal.returns-else-self
 returns-else-self c = λ joins m h worth.
