@@ -1,5 +1,5 @@
 -- The row of a dead id at a letter, less its forward times the letter.
-use Rattle.std.proofs.Common.{◌≡◌, ℕ, suc, ◌+◌, ◌-◌, ◌*◌, ◌%◌, ◌<◌, ◌≤◌, nat_eq, Some, None, [], ◌∷◌, ◌++◌, length, All, refl, sym, ap, subst, ◌∙◌, arith}
+use Rattle.std.proofs.Common.{◌≡◌, ◌≢◌, ℕ, suc, ◌+◌, ◌-◌, ◌*◌, ◌%◌, ◌<◌, ◌≤◌, nat_eq, Some, None, [], ◌∷◌, ◌++◌, length, All, refl, sym, ap, subst, ◌∙◌, arith, mod-eq_of_lt}
 use Rattle.std.specs.Prelude.{Option, IsSome, unwrap_or}
 use mathlib.Core.Path.{fun_ext}
 use Rattle.std.proofs.lemmas.List.Elements.{All-append, All-weaker}
@@ -11,53 +11,33 @@ use Rattle.ve_theory.specs.Presentations.{reach}
 use Rattle.ve_theory.specs.Derivations.{DerivedWithin, Within}
 use Rattle.ve_theory.specs.Answers.{Row, IsRow}
 use Rattle.ve_theory.specs.Laws.{IsTotalOrder, ReachAddsUp}
-use Rattle.ve_theory.proofs.Sums.{weigh, weigh-append, weigh-scaled, weigh-unit, weigh-extended, weigh-difference, SameWeights, SameWeights-refl, SameWeights-sym, SameWeights-trans, SameWeights-append, SameWeights-difference, SameWeights-extended, SameWeights_of, extended-extended, extended-difference, differences-extended, differences-append}
+use Rattle.ve_theory.proofs.Sums.{weigh, weigh-append, weigh-scaled, weigh-unit, weigh-extended, weigh-difference, SameWeights, SameWeights-refl, SameWeights-sym, SameWeights-trans, SameWeights-append, SameWeights-scaled, SameWeights-difference, SameWeights-extended, SameWeights_of, scaled-one, extended-extended, extended-difference, differences-extended, differences-append, Alike_from_weights}
 use Rattle.ve_theory.proofs.Independence.{congruent_by}
 use Rattle.ve_theory.proofs.Products.{weigh-times_letter}
 use Rattle.ve_theory.proofs.Members.{All-scaled, All-times_letter}
 use Rattle.ve_theory.proofs.Remainders.{All-extended, All-unit, All-combination_of}
 use Rattle.ve_theory.proofs.DerivationTrees.{Within-words}
-use Rattle.ve_theory.proofs.DerivedElements.{times_letter-append, times_letter-scaled, DerivedWithin-alike, DerivedWithin-times}
-use Rattle.ve_vec.specs.Tracing.{row_or_zero}
+use Rattle.ve_theory.proofs.DerivedElements.{SameWeights-equal, times_letter-append, times_letter-scaled, DerivedWithin-alike, DerivedWithin-times}
+use Rattle.ve_vec.specs.Tracing.{row_or_zero, vector_times, HasProducts}
+use Rattle.ve_trace.proofs.Vectors.{vanishes_where_absent}
 use Rattle.ve_table.specs.Tables.{ActionTable, presented, word_at, row_at, element_of, on_words, IsDue}
 use Rattle.ve_table.specs.Sound.{IsSound, IsForwardOf}
 use Rattle.ve_machine.specs.Forwards.{stand_in, image_difference}
 use Rattle.ve_machine.proofs.ReducedSums.{reduced_keys, reduced_same}
 use Rattle.ve_machine.proofs.ResolvedVectors.{derived_both, derived_sum}
 use Rattle.ve_settle.proofs.Derived.{DerivedWithin-scaled}
-use Rattle.ve_settle.proofs.Deleting.{rest_of_prime}
 use Rattle.ve_machine.proofs.Forwardings.{positive_prime}
 use Rattle.ve_settle.proofs.Order.{lower_reach}
 
--- what is left of p, times w, is p - 1 times c times w
-taken : (m c rest w r e : ℕ) → c + rest ≡ suc m → Congruent (suc m) (r + m * e + rest * w) (r + m * (e + c * w))
-taken m c rest w r e whole =
-    let product : c * w + rest * w ≡ suc m * w = omega (arith, ap (λ n. n * w) whole) in
-    congruent_by (suc m) (r + m * e + rest * w) (r + m * (e + c * w)) (c * w) w (omega (arith, product))
-
--- a sum less a combination of f, one term longer
-pub taken_more : (p : ℕ) (f : ℕ → Row) (row part next old new by : Row) (i a rest : ℕ) → 0 < a → a < p → rest ≡ (p - a) % p → next ≡ part ++ (i, a) ∷ [] → f i ≡ by
-    → SameWeights p old (difference p row (extended f part)) → SameWeights p new (old ++ scaled rest by) → SameWeights p new (difference p row (extended f next))
-unfolding weigh
-taken_more p f row part next old new by i a rest positive residue rest_is next_is by_is same new_is =
-    SameWeights-trans new_is
-    (SameWeights-trans (SameWeights-append same (SameWeights-refl p (scaled rest by)))
-    (record {
-      at = λ h.
-          let m : ℕ = p - 1 in
-          let whole : a + rest ≡ suc m = rest_of_prime p a rest positive residue rest_is ∙ omega (arith, residue) in
-          let left : weigh h (difference p row (extended f part) ++ scaled rest by) ≡ weigh h row + m * weigh h (extended f part) + rest * weigh h by =
-          weigh-append h (difference p row (extended f part)) (scaled rest by) ∙ omega (arith, weigh-difference h p row (extended f part), weigh-scaled h rest by) in
-          let longer : weigh h (extended f next) ≡ weigh h (extended f part) + a * weigh h by =
-          weigh-extended h f next ∙ ap (weigh (λ j. weigh h (f j))) next_is ∙ weigh-append (λ j. weigh h (f j)) part ((i, a) ∷ [])
-          ∙ omega (arith, weigh-extended h f part, ap (λ w. a * weigh h w) by_is) in
-          let right : weigh h (difference p row (extended f next)) ≡ weigh h row + m * (weigh h (extended f part) + a * weigh h by) =
-          weigh-difference h p row (extended f next) ∙ ap (λ n. weigh h row + m * n) longer in
-          ap (λ n. n % p) left
-          ∙ subst (λ q. Congruent q (weigh h row + m * weigh h (extended f part) + rest * weigh h by) (weigh h row + m * (weigh h (extended f part) + a * weigh h by)))
-          (omega (arith, residue)) (taken m a rest (weigh h by) (weigh h row) (weigh h (extended f part)) whole)
-          ∙ ap (λ n. n % p) (sym right);
-    }))
+-- a product is turned to its negative, and the row is added to it
+pub row_less : (p by : ℕ) (row sum product turned image : Row) → 1 < p → by ≡ (p - 1) % p → SameWeights p product sum
+    → SameWeights p turned (scaled by product) → SameWeights p image (turned ++ scaled 1 row) → SameWeights p image (difference p row sum)
+row_less p by row sum product turned image large by_is product_is turned_is image_is =
+    SameWeights-trans image_is
+    (SameWeights-trans (SameWeights-append (SameWeights-trans turned_is (SameWeights-scaled by product_is)) (scaled-one p row))
+    (SameWeights-equal (λ h.
+    let turns : by * weigh h sum ≡ (p - 1) * weigh h sum = ap (λ n. n * weigh h sum) (by_is ∙ mod-eq_of_lt (omega (arith, large))) in
+    weigh-append h (scaled by sum) row ∙ omega (arith, weigh-scaled h by sum, weigh-difference h p row sum, turns))))
 
 -- two sums less parts of one sum
 apart : (m u v w : ℕ) → Congruent (suc m) (u + m * w + m * (u + m * v)) (v + m * w)
@@ -79,6 +59,24 @@ differences_apart p u v w positive = record {
 pub due_below : (T : ActionTable) → IsSound T → IsTotalOrder (presented T) → (a b x : ℕ) → a < b → IsDue T b x → IsDue T a x
 due_below T sound order a b x less due = (omega (arith, less, due.0), due.1, omega (arith, lower_reach T sound order a b (omega (arith, less)) due.0, due.2))
 
+-- so it has a row
+row_below : (T : ActionTable) → IsSound T → IsTotalOrder (presented T) → (a b x : ℕ) → a < b → IsDue T b x → (r : Row) × (row_at T a x ≡ Some r)
+row_below T sound order a b x less due = given (row_at T a x) ((sound.due a x).1 (due_below T sound order a b x less due))
+  where
+    given : (o : Option Row) → IsSome o → (r : Row) × (o ≡ Some r)
+    given (Some r) some = (r, refl)
+    given None some = absurd cc
+
+-- each id of a forward has a product with a letter that the dead id has one with
+pub forward_found : (T : ActionTable) → IsSound T → IsTotalOrder (presented T) → (dead x : ℕ) (forward : Row) → IsDue T dead x → IsForwardOf T dead forward → HasProducts (presented T).prime (row_at T) forward x
+forward_found T sound order dead x forward due is_forward b none =
+    vanishes_where_absent (presented T).prime forward b
+    (All-weaker (λ (t : ℕ × ℕ). t.0 < dead) (λ (t : ℕ × ℕ). t.0 ≢ b)
+    (λ t less same.
+    let found = row_below T sound order t.0 dead x less due in
+    let there : row_at T b x ≡ Some found.0 = ap (λ c. row_at T c x) (sym same) ∙ found.1 in
+    cc) forward is_forward.below)
+
 -- the forward of a dead id, and the rows of its ids and of itself
 module _ (T : ActionTable) (sound : IsSound T) (order : IsTotalOrder (presented T)) (adds : ReachAddsUp) (dead x : ℕ) (due : IsDue T dead x)
     (row forward : Row) (row_is : row_at T dead x ≡ Some row) (is_forward : IsForwardOf T dead forward) (forward_is : stand_in T.forwards dead ≡ forward) where
@@ -90,11 +88,7 @@ module _ (T : ActionTable) (sound : IsSound T) (order : IsTotalOrder (presented 
 
   -- the product of each id of the forward has a row
   product_row : (c : ℕ) → c < dead → (r : Row) × (row_at T c x ≡ Some r)
-  product_row c less = given (row_at T c x) ((sound.due c x).1 (due_below T sound order c dead x less due))
-    where
-      given : (o : Option Row) → IsSome o → (r : Row) × (o ≡ Some r)
-      given (Some r) some = (r, refl)
-      given None some = absurd cc
+  product_row c less = row_below T sound order c dead x less due
 
   row_or : (c : ℕ) (r : Row) → row_at T c x ≡ Some r → rows c ≡ r
   unfolding rows
@@ -154,6 +148,23 @@ module _ (T : ActionTable) (sound : IsSound T) (order : IsTotalOrder (presented 
   image_is : image_difference (presented T).prime (row_at T) T.forwards dead x ≡ difference (presented T).prime row (extended rows forward)
   unfolding rows
   image_is = ap (λ r. difference (presented T).prime r (extended rows (stand_in T.forwards dead))) (row_or dead row row_is) ∙ ap (λ v. difference (presented T).prime row (extended rows v)) forward_is
+
+  -- the forward times the letter is turned to its negative, and the row is added to it
+  pub image_reduced : (by : ℕ) (product turned v : Row) → 1 < (presented T).prime → by ≡ ((presented T).prime - 1) % (presented T).prime
+      → IsReducedOf ◌<◌ nat_eq (presented T).prime product (vector_times (row_at T) forward x) → IsReducedOf ◌<◌ nat_eq (presented T).prime turned (scaled by product)
+      → IsReducedOf ◌<◌ nat_eq (presented T).prime v (turned ++ scaled 1 row)
+      → IsReducedOf ◌<◌ nat_eq (presented T).prime v (image_difference (presented T).prime (row_at T) T.forwards dead x)
+  unfolding rows
+  image_reduced by product turned v large by_is product_is turned_is is = record {
+    reduced = is.reduced;
+    alike = Alike_from_weights nat_eq
+        (SameWeights-trans
+        (row_less (presented T).prime by row (vector_times (row_at T) forward x) product turned v large by_is
+        (reduced_same (presented T).prime product (vector_times (row_at T) forward x) product_is)
+        (reduced_same (presented T).prime turned (scaled by product) turned_is)
+        (reduced_same (presented T).prime v (turned ++ scaled 1 row) is))
+        (SameWeights_of (sym image_is)));
+  }
 
   pub image_derived : (v : Row) → IsReducedOf ◌<◌ nat_eq (presented T).prime v (image_difference (presented T).prime (row_at T) T.forwards dead x) → DerivedWithin (presented T) T.level (element_of T v)
   image_derived v is =

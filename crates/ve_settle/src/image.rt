@@ -8,6 +8,7 @@ ghost use Rattle.ve_machine.specs.Forwards.{image_difference};
 use crate::rows::row_of;
 use std::alloc::Global;
 use ve_table::Table;
+use ve_trace::times_letter;
 use ve_vec::Sparse;
 use ve_word::Memory;
 
@@ -21,13 +22,11 @@ pub fn image_of(alloc: Global, table: &Table, dead: u32, letter: u8) -> Result<S
 {
     ve_theory::order::reach_adds_up();
     ve_theory::order::words_are_ordered();
-    let field = *table.presentation().field();
+    let field = table.presentation().field();
+    field.has_prime();
     let forward = table.forward(dead).unwrap();
-    let mut image = Sparse::zero(alloc);
-    image.add_scaled(&field, 1, row_of(table, dead, letter))?;
-    for at in 0..forward.len() {
-        let term = forward.term(at);
-        image.add_scaled(&field, field.neg(term.coef), row_of(table, term.id, letter))?;
-    }
+    let mut image = times_letter(alloc, table, field, forward, letter)?;
+    image.scale(field, field.neg(1));
+    image.add_scaled(field, 1, row_of(table, dead, letter))?;
     Ok(image)
 }

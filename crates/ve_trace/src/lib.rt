@@ -10,6 +10,7 @@ mod times;
 mod trace;
 mod walk;
 
+pub use times::times_letter;
 pub use trace::{trace_relator, trace_sub, trace_word};
 
 #[cfg(test)]

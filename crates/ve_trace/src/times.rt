@@ -34,8 +34,8 @@ pub(crate) fn times_letters<R: Rows>(
     Ok(vector)
 }
 
-/// The vector times a letter.
-pub(crate) fn times_letter<R: Rows>(
+/// The vector times a letter: the sum of the rows that its ids have at the letter, each times its coefficient.
+pub fn times_letter<R: Rows>(
     alloc: Global,
     rows: &R,
     field: &Field,
