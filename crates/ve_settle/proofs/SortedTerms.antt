@@ -1,6 +1,6 @@
 -- The terms of a vector, taken from the front, beside terms in a heap.
-use Rattle.std.proofs.Common.{◌≡◌, ℕ, ◌+◌, ◌*◌, ◌%◌, ◌<◌, ◌≤◌, max, Bool, IsTrue, Some, [], ◌∷◌, ◌++◌, drop, All, ap, ap₂, sym, subst, ◌∙◌, append_assoc, add-one, drop-cons, inl, inr, arith}
-use Rattle.std.specs.Prelude.{Option, IfSome, None, slice_get}
+use Rattle.std.proofs.Common.{◌≡◌, ℕ, ◌+◌, ◌*◌, ◌%◌, ◌<◌, ◌≤◌, refl, max, Bool, IsTrue, Some, [], ◌∷◌, ◌++◌, drop, length, All, ap, ap₂, sym, subst, ◌∙◌, append_assoc, add-one, drop-cons, inl, inr, arith}
+use Rattle.std.specs.Prelude.{Option, IfSome, IsNone, None, slice_get, ◌↔◌}
 use Rattle.std.specs.List.Sorted.{IsPermutation}
 use Rattle.std.proofs.lemmas.Bool.{cases_lt}
 use Rattle.std.proofs.lemmas.Option.{slice_get_within, get_or_from_slice_get}
@@ -49,6 +49,11 @@ next_below p v l n i t reduced next all other =
     let le : t.0 ≤ i = (next_all (λ s. s.0 ≤ i) v l n t next all).0 in
     let less : t.0 < i = omega (arith, le, other) in
     All-weaker (λ (s : ℕ × ℕ). s.0 ≤ t.0) (λ (s : ℕ × ℕ). s.0 < i) (λ s at_most. omega (arith, at_most, less)) (drop n v) (up_to_next p v n t.0 t reduced next (omega arith))
+
+-- the first term is taken away
+pub first_gone : {A : Type 0} (o : Option A) (term : A → ℕ × ℕ) (old new : Combination ℕ) → (IsNone o ↔ (old ≡ [])) → IfSome o (λ t. old ≡ term t ∷ new) → 0 < length old → new ≡ drop 1 old
+first_gone (Some t) term old new none first some = sym (ap (drop 1) first)
+first_gone None term old new none first some = absurd (omega (arith, some, ap length (none.0 refl)))
 
 -- an id that passes where all terms behind do
 pub passes_behind : (o : Option ℕ) (d l : Combination ℕ) → IfSome o (λ id. (among : ℕ → Bool) → AllIds among l → IsTrue (among id)) → IfSome o (λ id. (among : ℕ → Bool) → AllIds among (d ++ l) → IsTrue (among id))

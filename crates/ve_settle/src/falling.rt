@@ -1,4 +1,4 @@
-ghost use Rattle.std.specs.Prelude.{◌≡◌, ℕ, ◌<◌, ◌≤◌, ◌∷◌, ◌++◌, [], All, Bool, IfNone, IfSome, IsTrue, OnOk, drop, length, nat_eq};
+ghost use Rattle.std.specs.Prelude.{◌≡◌, ℕ, ◌<◌, ◌≤◌, ◌+◌, ◌^◌, ◌∷◌, ◌++◌, [], All, Bool, IfNone, IfSome, IsTrue, OnOk, drop, length, nat_eq};
 ghost use Rattle.ve_theory.specs.Combinations.{scaled, Alike, IsReduced};
 ghost use Rattle.ve_vec.specs.Vectors.{AllIds};
 ghost use Rattle.ve_settle.specs.Reduced.{IsReduced-prop};
@@ -15,7 +15,11 @@ const SHORT: usize = 4;
 // So are those that are more than this many times shorter than what is left of the sorted one.
 const MUCH_SHORTER: usize = 32;
 
-/// A sum whose terms are taken by falling id. Short vectors are kept loose in a heap, and wide ones are merged in order.
+// Up to this many sorted terms are changed in place, so that short vectors take no memory.
+const FEW: usize = 16;
+
+/// A sum whose terms are taken by falling id. As long as they are few, they stand in order. Of many, short vectors are kept loose in a
+/// heap, and wide ones are merged in order.
 #[derive(Drop)]
 pub(crate) struct FallingSum {
     field: Field,
@@ -31,14 +35,15 @@ pub(crate) struct FallingSum {
 impl FallingSum {
     ghost use Rattle.ve_settle.specs.Falling.{left_of};
 
-    /// The empty sum.
-    pub(crate) fn new(alloc: Global, field: Field) -> FallingSum
+    /// The sum that is a vector.
+    pub(crate) fn new(alloc: Global, field: Field, vector: Sparse) -> FallingSum
+        requires { IsReduced ◌<◌ field vector }
         ensures field { result.field ≡ field }
-        ensures empty { left_of result ≡ [] }
+        ensures whole { left_of result ≡ vector }
     {
         FallingSum {
             field,
-            sorted: Sparse::zero(alloc),
+            sorted: vector,
             taken: 0,
             loose: TermHeap::new(alloc, field),
         }
@@ -53,6 +58,10 @@ impl FallingSum {
         ensures ids { OnOk result ((among : ℕ → Bool) → AllIds among (left_of self.old) → AllIds among vector.now
             → AllIds among (left_of self.new)) }
     {
+        if self.has_few() && vector.len() <= SHORT {
+            self.sorted.add_scaled(&self.field, by, vector)?;
+            return Ok(());
+        }
         let left = self.sorted.len() - self.taken;
         if vector.len() <= SHORT || vector.len() < left / MUCH_SHORTER {
             self.loose.push_scaled(by, vector)?;
@@ -118,7 +127,29 @@ impl FallingSum {
         if next.id != id {
             return 0;
         }
-        self.taken += 1;
+        self.leave_next();
         next.coef
+    }
+
+    /// Leaves the next sorted term out.
+    fn leave_next(&mut self)
+        requires next { self.old.taken < length self.old.sorted }
+        requires room { self.old.taken + 1 < 2 ^ 64 }
+        ensures field { self.new.field ≡ self.old.field }
+        ensures loose { self.new.loose ≡ self.old.loose }
+        ensures rest { drop self.new.taken self.new.sorted ≡ drop (self.old.taken + 1) self.old.sorted }
+    {
+        if self.has_few() {
+            self.sorted.take_leading();
+        } else {
+            self.taken += 1;
+        }
+    }
+
+    /// Whether the sorted terms are few, and all of them are left.
+    fn has_few(&self) -> bool
+        ensures { IsTrue result → self.now.taken ≡ 0 }
+    {
+        self.taken == 0 && self.sorted.len() <= FEW
     }
 }

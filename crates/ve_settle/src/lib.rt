@@ -18,7 +18,8 @@ pub use finished::{Finished, finish, finished_tables_settle};
 pub use ids::words_rise_with_ids;
 pub use image::image_of;
 pub use resolution::{
-    forwardings_resolve_to_zero, resolutions_are_unique, resolutions_keep_words, resolve,
+    forwardings_resolve_to_zero, into_resolved, resolutions_are_unique, resolutions_keep_words,
+    resolve,
 };
 pub use substitution::rewrite;
 

@@ -24,10 +24,24 @@ pub fn resolve(alloc: Global, table: &Table, vector: &Sparse) -> Result<Sparse, 
     // No id is above all those of the vector.
     ensures ids { IfOk result (λ v. (bound : ℕ) → All (λ t. t.0 ≤ bound) vector.now → All (λ t. t.0 ≤ bound) v) }
 {
+    let copy = vector.copy()?;
+    let resolved = into_resolved(alloc, table, copy)?;
+    Ok(resolved)
+}
+
+/// The same for a vector that is given away: one whose ids are live is its own resolved form.
+pub fn into_resolved(alloc: Global, table: &Table, vector: Sparse) -> Result<Sparse, Memory>
+    requires { IsRow (presented table.now).prime (length table.now.words) vector }
+    ensures resolved { IfOk result (IsResolved (presented table.now).prime table.now.forwards vector) }
+    ensures row { IfOk result (IsRow (presented table.now).prime (length table.now.words)) }
+    ensures derived { IfOk result (λ v. DerivedWithin (presented table.now) table.now.level
+        (difference (presented table.now).prime (element_of table.now vector) (element_of table.now v))) }
+    // No id is above all those of the vector.
+    ensures ids { IfOk result (λ v. (bound : ℕ) → All (λ t. t.0 ≤ bound) vector → All (λ t. t.0 ≤ bound) v) }
+{
     table.is_sound();
-    if has_live_ids(table, vector) {
-        let copy = vector.copy()?;
-        return Ok(copy);
+    if has_live_ids(table, &vector) {
+        return Ok(vector);
     }
     let resolved = resolve_by_falling_ids(alloc, table, vector)?;
     Ok(resolved)
@@ -35,19 +49,18 @@ pub fn resolve(alloc: Global, table: &Table, vector: &Sparse) -> Result<Sparse, 
 
 // A forward has lower ids than the id that it stands for. So once the terms of an id are added up, no later forward brings it in
 // again, and each id is met once.
-fn resolve_by_falling_ids(alloc: Global, table: &Table, vector: &Sparse) -> Result<Sparse, Memory>
-    requires { IsRow (presented table.now).prime (length table.now.words) vector.now }
-    ensures resolved { IfOk result (IsResolved (presented table.now).prime table.now.forwards vector.now) }
-    ensures ids { IfOk result (λ v. (bound : ℕ) → All (λ t. t.0 ≤ bound) vector.now → All (λ t. t.0 ≤ bound) v) }
+fn resolve_by_falling_ids(alloc: Global, table: &Table, vector: Sparse) -> Result<Sparse, Memory>
+    requires { IsRow (presented table.now).prime (length table.now.words) vector }
+    ensures resolved { IfOk result (IsResolved (presented table.now).prime table.now.forwards vector) }
+    ensures ids { IfOk result (λ v. (bound : ℕ) → All (λ t. t.0 ≤ bound) vector → All (λ t. t.0 ≤ bound) v) }
 {
     let field = *table.presentation().field();
-    let mut left = FallingSum::new(alloc, field);
-    left.push_scaled(1, vector)?;
+    let mut left = FallingSum::new(alloc, field, vector);
     let mut resolved = Sparse::zero(alloc);
     while let Some(term) = left.pop() {
         match table.forward(term.id) {
             Some(forward) => left.push_scaled(term.coef, forward)?,
-            None => add_term(alloc, &mut resolved, &field, term)?,
+            None => add_term(&mut resolved, &field, term)?,
         }
     }
     Ok(resolved)

@@ -44,7 +44,7 @@ fn rewritten(alloc: Global, table: &Table, vector: &Sparse) -> Result<Sparse, Me
         let term = vector.term(at);
         match table.forward(term.id) {
             Some(forward) => brought.add_scaled(&field, term.coef, forward)?,
-            None => add_term(alloc, &mut kept, &field, term)?,
+            None => add_term(&mut kept, &field, term)?,
         }
     }
     kept.add_scaled(&field, 1, &brought)?;

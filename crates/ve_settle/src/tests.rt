@@ -30,7 +30,37 @@ enum Step {
     Rewrite(u32, bool, Terms),
 }
 
-// Modulo 2 on the words e1, e1*x, e1*x*x.
+/// Steps on the table of one generator and one letter at a level, modulo a prime.
+struct Case {
+    prime: u64,
+    level: u32,
+    steps: &'static [Step],
+}
+
+const CASES: [Case; 4] = [
+    Case {
+        prime: 2,
+        level: 2,
+        steps: &TWO_CYCLE,
+    },
+    Case {
+        prime: 5,
+        level: 4,
+        steps: &FIVE,
+    },
+    Case {
+        prime: 5,
+        level: 9,
+        steps: &WIDE,
+    },
+    Case {
+        prime: 3,
+        level: 20,
+        steps: &LONG,
+    },
+];
+
+// On the words e1, e1*x, e1*x*x.
 const TWO_CYCLE: [Step; 6] = [
     Step::Delete(&[(2, 1), (0, 1)], Some(2), &[(0, 1)]),
     Step::Resolve(&[(2, 1)], &[(0, 1)]),
@@ -40,7 +70,7 @@ const TWO_CYCLE: [Step; 6] = [
     Step::Delete(&[], None, &[]),
 ];
 
-// Modulo 5 on the words from e1 to e1*x*x*x*x.
+// On the words from e1 to e1*x*x*x*x.
 const FIVE: [Step; 19] = [
     // The forward is divided by the negative of the coefficient.
     Step::Delete(&[(4, 2), (3, 4), (1, 1)], Some(4), &[(3, 3), (1, 2)]),
@@ -67,7 +97,7 @@ const FIVE: [Step; 19] = [
     Step::Resolve(&[(4, 1), (3, 1), (2, 1), (1, 1), (0, 1)], &[(1, 3)]),
 ];
 
-// Modulo 5 on the words from e1 to e1 times nine x. Forwards of six terms, where all but the last come to have dead ids.
+// Forwards of six terms, where all but the last come to have dead ids.
 const WIDE: [Step; 9] = [
     Step::Delete(
         &[(9, 1), (8, 4), (7, 2), (6, 1), (5, 3), (4, 2), (3, 4)],
@@ -102,31 +132,68 @@ const WIDE: [Step; 9] = [
     ),
 ];
 
+// More terms than are changed in place.
+const LONG: [Step; 4] = [
+    Step::Delete(&[(20, 1), (5, 2)], Some(20), &[(5, 1)]),
+    Step::Delete(&[(18, 1), (7, 1), (3, 1)], Some(18), &[(7, 2), (3, 2)]),
+    Step::Delete(&[(7, 1), (3, 1)], Some(7), &[(3, 2)]),
+    Step::Resolve(
+        &[
+            (20, 1),
+            (19, 1),
+            (18, 1),
+            (17, 1),
+            (16, 1),
+            (15, 1),
+            (14, 1),
+            (13, 1),
+            (12, 1),
+            (11, 1),
+            (10, 1),
+            (9, 1),
+            (8, 1),
+            (7, 1),
+            (6, 1),
+            (5, 1),
+            (4, 1),
+        ],
+        &[
+            (19, 1),
+            (17, 1),
+            (16, 1),
+            (15, 1),
+            (14, 1),
+            (13, 1),
+            (12, 1),
+            (11, 1),
+            (10, 1),
+            (9, 1),
+            (8, 1),
+            (6, 1),
+            (5, 2),
+            (4, 1),
+            (3, 2),
+        ],
+    ),
+];
+
 #[test]
-fn two_cycle(rt: HostRuntime) -> Result<(), Fail> {
-    let mut table = table_of(rt.alloc(), 2, 2)?;
-    for (at, step) in TWO_CYCLE.iter().enumerate() {
-        assert!(rt; passes(rt.alloc(), &mut table, step)?, "at {at}");
+fn steps_answer(rt: HostRuntime) -> Result<(), Fail> {
+    for (at, case) in CASES.iter().enumerate() {
+        assert_eq!(rt; first_failure(rt.alloc(), case)?, None, "case {at}");
     }
     Ok(())
 }
 
-#[test]
-fn five(rt: HostRuntime) -> Result<(), Fail> {
-    let mut table = table_of(rt.alloc(), 5, 4)?;
-    for (at, step) in FIVE.iter().enumerate() {
-        assert!(rt; passes(rt.alloc(), &mut table, step)?, "at {at}");
+/// The place of the first step that answers something else.
+fn first_failure(alloc: Global, case: &Case) -> Result<Option<usize>, Fail> {
+    let mut table = table_of(alloc, case.prime, case.level)?;
+    for (at, step) in case.steps.iter().enumerate() {
+        if !passes(alloc, &mut table, step)? {
+            return Ok(Some(at));
+        }
     }
-    Ok(())
-}
-
-#[test]
-fn wide(rt: HostRuntime) -> Result<(), Fail> {
-    let mut table = table_of(rt.alloc(), 5, 9)?;
-    for (at, step) in WIDE.iter().enumerate() {
-        assert!(rt; passes(rt.alloc(), &mut table, step)?, "at {at}");
-    }
-    Ok(())
+    Ok(None)
 }
 
 /// The table of one generator and one letter at a level, modulo a prime, where every vector vanishes.
@@ -239,7 +306,7 @@ fn vector_of(alloc: Global, table: &Table, terms: &[(u32, u8)]) -> Result<Sparse
     let mut sum = Sparse::zero(alloc);
     for (id, coef) in terms {
         let coef = field.reduce(u128::from(*coef));
-        add_term(alloc, &mut sum, &field, Term { id: *id, coef })?;
+        add_term(&mut sum, &field, Term { id: *id, coef })?;
     }
     Ok(sum)
 }

@@ -1,9 +1,9 @@
-use Rattle.std.proofs.Common.{◌≡◌, ℕ, ◌<◌, ltb, Some, ◌∷◌, ◌++◌, nat_eq, length, IsTrue, ap, ◌∙◌}
+use Rattle.std.proofs.Common.{◌≡◌, ℕ, ◌<◌, ltb, Some, ◌∷◌, ◌++◌, nat_eq, length, IsTrue, ap, ap₂, sym, ◌∙◌}
 use Rattle.std.specs.Prelude.{slice_get}
 use Rattle.std.proofs.lemmas.Bool.{ltb-true}
 use Rattle.std.proofs.lemmas.List.Elements.{All-nil, All-append}
 use Rattle.ve_theory.specs.Combinations.{unit, scaled, IsReducedOf}
-use Rattle.ve_theory.proofs.Sums.{prime-large, SameWeights, SameWeights-sym, SameWeights-trans, SameWeights_of, scaled-one, weights_from_Alike, Decides-nat_eq}
+use Rattle.ve_theory.proofs.Sums.{prime-large, SameWeights, SameWeights_of, weights_from_Alike, Decides-nat_eq}
 use Rattle.ve_theory.proofs.Members.{All-scaled}
 use Rattle.ve_theory.proofs.Remainders.{All-unit}
 use Rattle.ve_table.specs.Tables.{presented, IsLive}
@@ -14,64 +14,60 @@ use Rattle.ve_settle.proofs.Forwarding.{done_dead, done_live}
 use Rattle.ve_settle.proofs.Resolving.{below_by_test, bound_kept, bounded, ceiling_falls, tested_below}
 use Rattle.ve_settle.proofs.resolution.resolve_by_falling_ids.Goals as goal
 
-pub push_scaled-requires-clause-residue : goal.push_scaled-requires-clause-residue
-push_scaled-requires-clause-residue c =
+pub new-left-requires : goal.new-left-requires
+new-left-requires c =
     let same : c.field.result.now ≡ (presented c.args.table.now).prime = c.field.ensures.field ∙ ap (λ d. d.presentation.prime) c.presentation.ensures.value in
-    rw (c.new-left.ensures.field, same) (prime-large (presented c.args.table.now).prime c.presentation.ensures.sound.valid.presentation.field)
+    rw same c.requires.0
 
 pub loop-term-init : goal.loop-term-init
 loop-term-init c =
     let same : c.field.result.now ≡ (presented c.args.table.now).prime = c.field.ensures.field ∙ ap (λ d. d.presentation.prime) c.presentation.ensures.value in
-    let sound = c.presentation.ensures.sound in
     let p : ℕ = (presented c.args.table.now).prime in
-    let field_is : c.new-left.result.field ≡ p = c.new-left.ensures.field ∙ same in
-    let pushed : SameWeights p (left_of c.push_scaled.new.self) (scaled 1 c.args.vector.now) =
-    weights_from_Alike nat_eq Decides-nat_eq p _ _ (rw (field_is, c.new-left.ensures.empty) at c.in_ok-push_scaled.ensures.sum) in
     record {
-      field = c.in_ok-push_scaled.ensures.field ∙ field_is;
+      field = c.new-left.ensures.field ∙ same;
       reduced = c.zero-resolved.ensures.fits p;
       live = rw c.zero-resolved.ensures.value (All-nil (λ (t : ℕ × ℕ). IsLive c.args.table.now t.0));
-      forwarding = nothing_forwarded p c.args.table.now.forwards c.args.vector.now _ (positive_prime c.args.table.now sound)
-          (SameWeights-sym (SameWeights-trans (SameWeights_of (ap (λ w. w ++ left_of c.push_scaled.new.self) c.zero-resolved.ensures.value)) (SameWeights-trans pushed (scaled-one p c.args.vector.now))));
+      forwarding = nothing_forwarded p c.args.table.now.forwards c.args.vector _ (positive_prime c.args.table.now c.presentation.ensures.sound)
+          (SameWeights_of (sym (ap₂ (λ v w. v ++ w) c.zero-resolved.ensures.value c.new-left.ensures.whole)));
       ids = λ among kept all. (
         rw c.zero-resolved.ensures.value (All-nil (λ (t : ℕ × ℕ). IsTrue (among t.0))),
-        c.in_ok-push_scaled.ensures.ids among (rw c.new-left.ensures.empty (All-nil (λ (t : ℕ × ℕ). IsTrue (among t.0)))) all,
+        rw c.new-left.ensures.whole all,
       );
     }
 
 pub forward-requires : goal.forward-requires
 forward-requires c =
     let n : ℕ = length c.args.table.now.words in
-    let left = (c.loop-term.invariant.ids (λ k. ltb k n) (bound_kept c.args.table.now c.presentation.ensures.sound n) (tested_below n c.args.vector.now c.requires.1)).1 in
+    let left = (c.loop-term.invariant.ids (λ k. ltb k n) (bound_kept c.args.table.now c.presentation.ensures.sound n) (tested_below n c.args.vector c.requires.1)).1 in
     ltb-true c.in-Some.term.id n (c.in-Some.ensures.ids (λ k. ltb k n) left).0
 
-pub push_scaled-requires-in-Some-forward-clause-fits : goal.push_scaled-requires-in-Some-forward-clause-fits
-push_scaled-requires-in-Some-forward-clause-fits c =
+pub push_scaled-requires-clause-fits : goal.push_scaled-requires-clause-fits
+push_scaled-requires-clause-fits c =
     let dead_is : slice_get c.args.table.now.forwards c.in-Some.term.id ≡ Some (Some c.in-Some-forward.forward.now) = c.in-Some-forward.ensures in
     rw (c.in-Some.ensures.field, c.loop-term.invariant.field) (c.presentation.ensures.sound.forwards _ _ dead_is).stands.row.0
 
-pub loop-term-smaller-in-Continue-branch-2 : goal.loop-term-smaller-in-Continue-branch-2
-loop-term-smaller-in-Continue-branch-2 c =
+pub loop-term-smaller-in-Continue-1 : goal.loop-term-smaller-in-Continue-1
+loop-term-smaller-in-Continue-1 c =
     let dead_is : slice_get c.args.table.now.forwards c.in-Some.term.id ≡ Some (Some c.in-Some-forward.forward.now) = c.in-Some-forward.ensures in
     let id : ℕ = c.in-Some.term.id in
     ceiling_falls id _ _ (λ among all. (c.in-Some.ensures.ids among all).0)
     (below_by_test id _ (c.in_ok-push_scaled-in-Some-forward.ensures.ids (λ k. ltb k id) (tested_below id _ c.in-Some.ensures.falls)
     (tested_below id _ (c.presentation.ensures.sound.forwards _ _ dead_is).below)))
 
-pub loop-term-preserved-in-Continue-branch-2 : goal.loop-term-preserved-in-Continue-branch-2
-loop-term-preserved-in-Continue-branch-2 c =
+pub loop-term-preserved-in-Continue-1 : goal.loop-term-preserved-in-Continue-1
+loop-term-preserved-in-Continue-1 c =
     let p : ℕ = (presented c.args.table.now).prime in
     let left_is : SameWeights p (left_of c.loop-term.left) ((c.in-Some.term.id, c.in-Some.term.coef) ∷ left_of c.pop.new.self) =
     weights_from_Alike nat_eq Decides-nat_eq p _ _ (rw c.loop-term.invariant.field at c.in-Some.ensures.sum) in
     let dead_is : slice_get c.args.table.now.forwards c.in-Some.term.id ≡ Some (Some c.in-Some-forward.forward.now) = c.in-Some-forward.ensures in
     let field_is : c.pop.new.self.field ≡ p = c.in-Some.ensures.field ∙ c.loop-term.invariant.field in
-    let new_is : SameWeights p (left_of c.push_scaled-in-Some-forward.new.self) (left_of c.pop.new.self ++ scaled c.in-Some.term.coef c.in-Some-forward.forward.now) =
+    let new_is : SameWeights p (left_of c.push_scaled.new.self) (left_of c.pop.new.self ++ scaled c.in-Some.term.coef c.in-Some-forward.forward.now) =
     weights_from_Alike nat_eq Decides-nat_eq p _ _ (rw field_is at c.in_ok-push_scaled-in-Some-forward.ensures.sum) in
     record {
       field = c.in_ok-push_scaled-in-Some-forward.ensures.field ∙ field_is;
       reduced = c.loop-term.invariant.reduced;
       live = c.loop-term.invariant.live;
-      forwarding = done_dead p c.args.table.now.forwards c.args.vector.now c.loop-term.resolved _ _ _ c.in-Some-forward.forward.now c.in-Some.term.id c.in-Some.term.coef
+      forwarding = done_dead p c.args.table.now.forwards c.args.vector c.loop-term.resolved _ _ _ c.in-Some-forward.forward.now c.in-Some.term.id c.in-Some.term.coef
           (positive_prime c.args.table.now c.presentation.ensures.sound) left_is (dead_stands c.args.table.now.forwards c.in-Some.term.id _ dead_is) new_is c.loop-term.invariant.forwarding;
       ids = λ among kept all.
           let parts = c.loop-term.invariant.ids among kept all in
@@ -100,7 +96,7 @@ loop-term-preserved c =
       live = reduced_keys (IsLive c.args.table.now) p _ _ sum
           (All-append (λ (t : ℕ × ℕ). IsLive c.args.table.now t.0) c.loop-term.resolved _ c.loop-term.invariant.live
           (All-scaled (IsLive c.args.table.now) c.in-Some.term.coef (unit c.in-Some.term.id) (All-unit (IsLive c.args.table.now) c.in-Some.term.id c.in-None.ensures)));
-      forwarding = done_live p c.args.table.now.forwards c.args.vector.now c.loop-term.resolved _ _ _ c.in-Some.term.id c.in-Some.term.coef left_is (reduced_same p _ _ sum) c.loop-term.invariant.forwarding;
+      forwarding = done_live p c.args.table.now.forwards c.args.vector c.loop-term.resolved _ _ _ c.in-Some.term.id c.in-Some.term.coef left_is (reduced_same p _ _ sum) c.loop-term.invariant.forwarding;
       ids = λ among kept all.
           let parts = c.loop-term.invariant.ids among kept all in
           let taken = c.in-Some.ensures.ids among parts.1 in (
@@ -112,4 +108,4 @@ loop-term-preserved c =
     }
 
 pub returns-clause-ids : goal.returns-clause-ids
-returns-clause-ids c = bounded c.args.table.now c.presentation.ensures.sound c.args.vector.now c.loop-term.resolved (λ among kept all. (c.loop-term.invariant.ids among kept all).0)
+returns-clause-ids c = bounded c.args.table.now c.presentation.ensures.sound c.args.vector c.loop-term.resolved (λ among kept all. (c.loop-term.invariant.ids among kept all).0)

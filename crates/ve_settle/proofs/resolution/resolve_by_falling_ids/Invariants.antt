@@ -14,8 +14,8 @@ invariant-loop-term l = record {
   field : l.left.field ≡ (presented l.table).prime;
   reduced : IsReduced ◌<◌ (presented l.table).prime l.resolved;
   live : HasLiveIds l.table l.resolved;
-  forwarding : IsForwarding (presented l.table).prime l.table.forwards (difference (presented l.table).prime l.vector (l.resolved ++ left_of l.left));
-  ids : (among : ℕ → Bool) → IsKept l.table among → AllIds among l.vector → AllIds among l.resolved × AllIds among (left_of l.left);
+  forwarding : IsForwarding (presented l.table).prime l.table.forwards (difference (presented l.table).prime l.fn.vector (l.resolved ++ left_of l.left));
+  ids : (among : ℕ → Bool) → IsKept l.table among → AllIds among l.fn.vector → AllIds among l.resolved × AllIds among (left_of l.left);
 }
 
 abbrev pub decreases-loop-term : goal.decreases-loop-term

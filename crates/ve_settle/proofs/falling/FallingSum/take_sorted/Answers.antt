@@ -21,12 +21,14 @@ returns-clause-residue c = (term_residue _ _ _ _ c.args.self.now.reduced c.term-
 pub returns-clause-sum : goal.returns-clause-sum
 returns-clause-sum c =
     Alike_from_weights nat_eq
-    (rw (← c.if-next-id.false) (next_taken _ c.args.self.now.sorted (heap_items c.args.self.now.loose.terms) c.args.self.now.taken _ c.term-next.ensures))
+    (rw (← c.if-next-id.false, c.leave_next.ensures.rest, c.leave_next.ensures.loose)
+    (next_taken _ c.args.self.now.sorted (heap_items c.args.self.now.loose.terms) c.args.self.now.taken _ c.term-next.ensures))
 
 pub returns-clause-below : goal.returns-clause-below
-returns-clause-below c = rw (← c.if-next-id.false) (behind_next _ _ _ _ c.args.self.now.reduced c.term-next.ensures)
+returns-clause-below c = rw (← c.if-next-id.false, c.leave_next.ensures.rest) (behind_next _ _ _ _ c.args.self.now.reduced c.term-next.ensures)
 
 pub returns-clause-ids : goal.returns-clause-ids
 returns-clause-ids c =
-    λ among all.
-    (next_all (λ t. IsTrue (among t.0)) c.args.self.now.sorted (heap_items c.args.self.now.loose.terms) c.args.self.now.taken _ c.term-next.ensures all).1
+    rw (c.leave_next.ensures.rest, c.leave_next.ensures.loose)
+    (λ among all.
+    (next_all (λ t. IsTrue (among t.0)) c.args.self.now.sorted (heap_items c.args.self.now.loose.terms) c.args.self.now.taken _ c.term-next.ensures all).1)

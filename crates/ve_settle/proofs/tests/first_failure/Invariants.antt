@@ -3,8 +3,8 @@ use Rattle.std.specs.Prelude.{slice_get}
 use Rattle.ve_theory.specs.Combinations.{unit}
 use Rattle.ve_theory.specs.Presentations.{relators}
 use Rattle.ve_table.specs.Tables.{presented}
-use Rattle.ve_settle.proofs.tests.two_cycle.Given as goal
+use Rattle.ve_settle.proofs.tests.first_failure.Given as goal
 
 -- the first relator is 1
 abbrev pub invariant-loop-at : goal.invariant-loop-at
-invariant-loop-at g l = slice_get (relators (presented l.table)) 0 ≡ Some (unit [])
+invariant-loop-at l = slice_get (relators (presented l.table)) 0 ≡ Some (unit [])
