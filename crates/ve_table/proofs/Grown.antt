@@ -75,14 +75,14 @@ same_view t kept rows few same =
     (λ b x letter. same (b * letter_count t.presentation.presentation + x) ∙ rows_agree t kept b x letter))
 
 pub kept_with_room : (t u : Inside) → IsKept t → length u.rows.items ≤ length t.entries.items * letter_count t.presentation.presentation → u.entries.items ≡ t.entries.items
-    → u.presentation ≡ t.presentation → table_of u ≡ table_of t → u.live ≡ t.live → u.reaches ≡ t.reaches → IsKept u
+    → u.presentation ≡ t.presentation → table_of u ≡ table_of t → u.live ≡ t.live → AreReaches t.presentation.presentation u.reaches → IsKept u
 kept_with_room t u kept few entries presentation same live reaches = record {
   sound = subst IsSound (sym same) kept.sound;
   entries = λ b e found. subst (λ U. IsEntryOf U b e) (sym same) (kept.entries b e (subst (λ l. slice_get l b ≡ Some e) entries found));
   count = omega (arith, kept.count, ap length entries);
   few_places = subst (λ l. length u.rows.items ≤ length l * letter_count u.presentation.presentation) (sym entries) (subst (λ d. length u.rows.items ≤ length t.entries.items * letter_count d.presentation) (sym presentation) few);
   live_count = live ∙ kept.live_count ∙ ap (λ U. length (live_words U)) (sym same);
-  own_reaches = subst (λ d. AreReaches d.presentation u.reaches) (sym presentation) (subst (λ r. AreReaches t.presentation.presentation r) (sym reaches) kept.own_reaches);
+  own_reaches = subst (λ d. AreReaches d.presentation u.reaches) (sym presentation) reaches;
 }
 
 -- what defining asks for

@@ -24,6 +24,7 @@ pub mod Growing
 pub mod Counting
 pub mod NextLevel
 pub mod Grown
+pub mod Copying
 -- ---- a table taken apart
 pub mod ByLetter
 pub mod TakingApart

@@ -25,6 +25,18 @@ impl Reaches {
             submodule: submodule_reaches(alloc, presentation)?,
         })
     }
+
+    /// The same reaches once more.
+    pub(crate) fn copy(&self) -> Result<Reaches, Memory>
+        ensures relators { IfOk result (λ r. r.relators.items ≡ self.now.relators.items) }
+        ensures submodule { IfOk result (λ r. r.submodule.items ≡ self.now.submodule.items) }
+    {
+        let alloc = *self.relators.allocator();
+        Ok(Reaches {
+            relators: Vec::from_slice(alloc, &self.relators)?,
+            submodule: Vec::from_slice(alloc, &self.submodule)?,
+        })
+    }
 }
 
 fn relator_reaches(alloc: Global, presentation: &Presentation) -> Result<Vec<u32>, Memory>

@@ -12,6 +12,7 @@ ghost use Rattle.ve_table.specs.Changes.{next_count};
 ghost use Rattle.ve_table.specs.Steps.{live_steps};
 
 mod changes;
+mod copy;
 mod drop_dead;
 mod grow;
 mod into_parts;

@@ -33,12 +33,12 @@ room_view c =
 pub invariant_of-self : goal.invariant_of-self
 invariant_of-self c =
     kept_with_room c.self.inside _ c.self.invariant c.self.invariant.few_places c.reserve.ensures.items refl
-    (ap (λ l. tabled c.self.inside.presentation c.self.inside.level c.self.inside.images.items c.self.inside.rows.items l) c.reserve.ensures.items) refl refl
+    (ap (λ l. tabled c.self.inside.presentation c.self.inside.level c.self.inside.images.items c.self.inside.rows.items l) c.reserve.ensures.items) refl c.self.invariant.own_reaches
 
 pub invariant_of-self-in_err-take_places : goal.invariant_of-self-in_err-take_places
 invariant_of-self-in_err-take_places c =
     kept_with_room c.self.inside _ c.self.invariant
-    (few_taken c.self.inside c.self.invariant c.len-ids.result c.len-letters.result (c.len-ids.ensures ∙ c.self.inside.entries.ok.0) (c.len-letters.ensures ∙ c.weights-2.result.now.ok.0 ∙ ap length c.weights-2.ensures) c.take_places.new.rows.items c.take_places.ensures.within c.take_places.ensures.same) c.reserve.ensures.items refl (room_view c) refl refl
+    (few_taken c.self.inside c.self.invariant c.len-ids.result c.len-letters.result (c.len-ids.ensures ∙ c.self.inside.entries.ok.0) (c.len-letters.ensures ∙ c.weights-2.result.now.ok.0 ∙ ap length c.weights-2.ensures) c.take_places.new.rows.items c.take_places.ensures.within c.take_places.ensures.same) c.reserve.ensures.items refl (room_view c) refl c.self.invariant.own_reaches
 
 on_err : {T E P : Type 0} (r : Result T E) → P → OnErr r P
 on_err (Ok x) p = tt
