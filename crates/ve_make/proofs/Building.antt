@@ -1,18 +1,18 @@
 -- One relation more, and the presentation with it.
-use Rattle.std.specs.Prelude.{◌≡◌, ℕ, ◌+◌, ◌-◌, ◌*◌, ◌<◌, ◌≤◌, Bool, false, true, not, nat_eq, cond, List, [], ◌∷◌, ◌++◌, length, map, Some, sum_by}
+use Rattle.std.specs.Prelude.{◌≡◌, ℕ, ◌+◌, ◌-◌, ◌<◌, ◌≤◌, false, true, not, nat_eq, cond, List, [], ◌∷◌, ◌++◌, length, map, Some, sum_by}
 use Rattle.std.specs.List.{filter, flat_map}
-use Rattle.std.proofs.Common.{refl, ap, sym, subst, ◌∙◌, arith, length-append, append-nil, append_assoc}
+use Rattle.std.proofs.Common.{refl, ap, sym, ◌∙◌, arith, length-append, append-nil, append_assoc}
 use Rattle.std.proofs.lemmas.List.{length-map, map-append, flat_map_more}
 use Rattle.std.proofs.lemmas.List.Elements.{filter-append}
 use Rattle.std.proofs.lemmas.List.Sums.{sum_by_push}
 use Rattle.ve_theory.specs.Elements.{AlgebraElement, Element}
 use Rattle.ve_theory.specs.Presentations.{inverse_relators}
-use Rattle.ve_theory.specs.Validity.{cells, algebra_cells, element_cells}
+use Rattle.ve_theory.specs.Validity.{algebra_cells, element_cells}
 use Rattle.ve_lemmas.proofs.Relators.{inverse_cells}
 use Rattle.ve_formats.specs.Lines.{numbers_below, numbers_below-next}
 use Rattle.ve_formats.proofs.NumbersBelow.{length-numbers_below}
 use Rattle.ve_pres.specs.Drafts.{Draft, bare_draft, with_relator, with_submodule_relation}
-use Rattle.ve_make.specs.Symmetric.{swap_name, order_relation, relations_of_swap, order_relations, fixing_relation, fixing_relations, is_fixing}
+use Rattle.ve_make.specs.Symmetric.{swap_name, order_relation, relations_of_swap, fixing_relation, fixing_relations, is_fixing}
 use Rattle.ve_make.specs.Parts.{swaps_draft, HasRoom}
 use Rattle.ve_make.proofs.Rooms.{order_cells, fixing_cells}
 use Rattle.ve_make.proofs.Swaps.{listed-next}

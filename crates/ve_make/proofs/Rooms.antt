@@ -1,23 +1,19 @@
 -- Relations that there is room for, and what the presentation is with them.
-use Rattle.std.specs.Prelude.{◌≡◌, ℕ, zero, suc, ◌+◌, ◌-◌, ◌<◌, ◌≤◌, Bool, [], ◌∷◌, ◌++◌, length, map, replicate, nat_eq, All, IsFalse, IsTrue, slice_get, Contains, codes, decimal}
-use Rattle.std.specs.List.{concat, filter, flat_map}
-use Rattle.std.proofs.Common.{refl, ap, sym, subst, ◌∙◌, inl, inr, arith, add-one, length-append, append-nil, append_assoc}
+use Rattle.std.specs.Prelude.{◌≡◌, ℕ, zero, suc, ◌+◌, ◌-◌, ◌<◌, ◌≤◌, [], ◌∷◌, length, nat_eq, All, IsFalse}
+use Rattle.std.proofs.Common.{subst, arith}
 use Rattle.std.proofs.lemmas.Bool.{cond_both}
 use Rattle.std.proofs.lemmas.Bool.Decides.{when_false}
-use Rattle.std.proofs.lemmas.List.{length-map, map-append}
 use Rattle.std.proofs.lemmas.List.Elements.{All-nil, All-cons}
-use Rattle.ve_theory.specs.Words.{generator, times, letters, start, word_length}
-use Rattle.ve_theory.specs.Elements.{AlgebraElement, Element}
+use Rattle.ve_theory.specs.Words.{generator, times, letters, start}
 use Rattle.ve_theory.specs.Presentations.{Presentation, HasLetters, IsWord}
-use Rattle.ve_theory.specs.Validity.{cells, algebra_cells, element_cells, most_cells}
-use Rattle.ve_formats.specs.Lines.{numbers_below, numbers_below-next}
+use Rattle.ve_theory.specs.Validity.{cells, algebra_cells, element_cells}
 use Rattle.ve_pres.specs.Drafts.{Draft, TakesRelation, TakesSubmoduleRelation, IsRelationFault, IsSubmoduleRelationFault, with_relator, with_submodule_relation}
 use Rattle.ve_pres.specs.declared.limit.Limit.{Limit}
 use Rattle.ve_pres.specs.declared.limit.Limit.TheVariants.{Letters, Roots, Relations, Terms, Length, Cells}
 use Rattle.ve_pres.specs.declared.limit.PresFault.{PresFault}
 use Rattle.ve_pres.specs.declared.limit.PresFault.TheVariants.{Limit as Exceeds}
 use Rattle.ve_make.specs.Symmetric.{product_power, product_order, order_relation, fixing_relation}
-use Rattle.ve_make.specs.Parts.{swaps_draft, HasRoom}
+use Rattle.ve_make.specs.Parts.{HasRoom}
 use Rattle.ve_make.proofs.Vanishing.{length-product_power}
 
 -- ---- the relations' letters and cells

@@ -1,7 +1,7 @@
 -- The elements that vanish, as reduced lists.
 use Rattle.std.specs.Prelude.{◌≡◌, ℕ, zero, suc, ◌+◌, ◌-◌, ◌*◌, ◌<◌, ◌≤◌, List, [], ◌∷◌, ◌++◌, length, replicate, Some, None, Err, nat_lt, nat_eq, ◌&&◌, cond}
 use Rattle.std.specs.List.{concat}
-use Rattle.std.proofs.Common.{refl, ap, sym, subst, ◌∙◌, inl, inr, arith, add-one, length-append, append-nil}
+use Rattle.std.proofs.Common.{refl, ap, sym, subst, ◌∙◌, inl, arith}
 use Rattle.std.proofs.lemmas.Bool.{cond_both, ltb-true, and_parts}
 use Rattle.std.proofs.lemmas.Grind.{replicate_next}
 use Rattle.std.proofs.lemmas.List.Folds.{concat-append}

@@ -1,6 +1,6 @@
 -- The symmetric group on a number of points, presented by the swaps of neighbouring points, and its permutation module on the sets of
 -- `node` points. Points and swaps are numbered from 1 in names, and swaps from 0 as letters: letter x swaps the points x + 1 and x + 2.
-use Rattle.std.specs.Prelude.{ℕ, ◌+◌, ◌-◌, ◌<◌, ◌≤◌, Bool, false, not, nat_eq, cond, List, [], ◌∷◌, ◌++◌, Some, map, codes, decimal, length, replicate}
+use Rattle.std.specs.Prelude.{ℕ, ◌+◌, ◌-◌, ◌<◌, ◌≤◌, Bool, false, not, nat_eq, cond, List, [], ◌∷◌, ◌++◌, Some, map, codes, decimal, replicate}
 use Rattle.std.specs.List.{concat, filter, flat_map}
 use Rattle.ve_theory.specs.Residues.{IsFieldPrime}
 use Rattle.ve_theory.specs.Words.{generator, times}

@@ -1,5 +1,5 @@
-use Rattle.std.proofs.Common.{◌≡◌, ◌-◌, ◌∷◌, ◌++◌, [], arith, sym, ap₂, subst}
-use Rattle.ve_theory.specs.Combinations.{unit, scaled, IsReduced}
+use Rattle.std.proofs.Common.{◌-◌, ◌++◌, sym, ap₂, subst}
+use Rattle.ve_theory.specs.Combinations.{IsReduced}
 use Rattle.ve_theory.specs.Words.{Shortlex, generator, times}
 use Rattle.ve_theory.specs.Elements.{IsElementOf}
 use Rattle.ve_pres.specs.declared.free_mod.FreeMod.{FreeMod}

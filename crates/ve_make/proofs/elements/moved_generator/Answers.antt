@@ -1,8 +1,7 @@
-use Rattle.std.proofs.Common.{arith, subst, ap₂, ◌∷◌, [], ◌∙◌}
+use Rattle.std.proofs.Common.{subst, ap₂, ◌∙◌}
 use Rattle.ve_theory.specs.Combinations.{unit}
 use Rattle.ve_theory.specs.Words.{generator, times}
 use Rattle.ve_theory.specs.Elements.{IsElementOf, element_times}
-use Rattle.ve_pres.specs.declared.free_alg.FreeAlg.{FreeAlg}
 use Rattle.ve_pres.specs.declared.free_mod.FreeMod.{FreeMod}
 use Rattle.ve_make.proofs.Vanishing.{same_element, word_reduced, moved, no_move}
 use Rattle.ve_make.proofs.elements.moved_generator.Goals as goal

@@ -2,7 +2,6 @@ use Rattle.std.proofs.Common.{arith, subst, ap₂, ◌∷◌, [], ◌∙◌}
 use Rattle.ve_theory.specs.Elements.{IsAlgebraElementOf, product as product_of}
 use Rattle.ve_theory.specs.Combinations.{unit}
 use Rattle.ve_pres.specs.declared.free_alg.FreeAlg.{FreeAlg}
-use Rattle.ve_pres.specs.declared.free_mod.FreeMod.{FreeMod}
 use Rattle.ve_make.proofs.Vanishing.{same_algebra, unit_reduced, unit_product, no_unit_product}
 use Rattle.ve_make.proofs.elements.product.Goals as goal
 

@@ -1,5 +1,5 @@
-use Rattle.std.proofs.Common.{arith, sym, subst, ◌∷◌, []}
-use Rattle.ve_theory.specs.Combinations.{unit, IsReduced}
+use Rattle.std.proofs.Common.{sym, subst, ◌∷◌, []}
+use Rattle.ve_theory.specs.Combinations.{IsReduced}
 use Rattle.ve_theory.specs.Words.{ShortlexLetters}
 use Rattle.ve_pres.specs.Powers.{Reaches}
 use Rattle.ve_make.proofs.Vanishing.{unit_reduced, reached_power, no_power}

@@ -1,4 +1,4 @@
-use Rattle.std.proofs.Common.{◌≡◌, ◌+◌, ◌*◌, ◌<◌, length, arith, ap, sym, subst, ◌∙◌, [], nat_eq, true, false, eq-eqb}
+use Rattle.std.proofs.Common.{◌≡◌, ◌+◌, ◌*◌, arith, ap, sym, subst, ◌∙◌, nat_eq, true, false, eq-eqb}
 use Rattle.std.proofs.lemmas.Bool.{ne_eqb}
 use Rattle.ve_pres.specs.Drafts.{with_submodule_relation}
 use Rattle.ve_make.specs.Symmetric.{fixing_relation}

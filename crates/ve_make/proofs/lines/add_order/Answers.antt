@@ -1,4 +1,4 @@
-use Rattle.std.proofs.Common.{arith, sym, subst, All, ◌-◌}
+use Rattle.std.proofs.Common.{sym, subst, All}
 use Rattle.ve_theory.specs.Combinations.{IsReduced}
 use Rattle.ve_theory.specs.Words.{ShortlexLetters}
 use Rattle.ve_theory.specs.Presentations.{HasLetters}

@@ -1,4 +1,4 @@
-use Rattle.std.proofs.Common.{◌≡◌, ◌+◌, ◌*◌, length, arith, ap, sym, subst, ◌∙◌, ◌++◌, []}
+use Rattle.std.proofs.Common.{◌≡◌, ap, sym, subst, ◌∙◌, ◌++◌, []}
 use Rattle.std.specs.List.{flat_map}
 use Rattle.ve_formats.specs.Lines.{numbers_below}
 use Rattle.ve_make.specs.Symmetric.{relations_of_swap}

@@ -1,8 +1,8 @@
-use Rattle.std.proofs.Common.{◌≡◌, ◌+◌, ◌-◌, ◌*◌, ◌<◌, length, arith, ap, sym, subst, ◌∙◌, []}
+use Rattle.std.proofs.Common.{◌+◌, ◌-◌, ◌*◌, arith, ap, sym, subst, ◌∙◌, []}
 use Rattle.ve_make.specs.Symmetric.{order_relation}
 use Rattle.ve_make.specs.Parts.{swaps_draft, HasRoom}
 use Rattle.ve_pres.specs.Drafts.{with_relator}
-use Rattle.ve_make.proofs.Building.{swaps_count, orders-first, orders_before, next_order, room_order, more_room}
+use Rattle.ve_make.proofs.Building.{swaps_count, orders-first, next_order, room_order, more_room}
 use Rattle.ve_make.proofs.lines.add_orders_with.Goals as goal
 
 pub loop-second-init : goal.loop-second-init

@@ -1,7 +1,4 @@
 use Rattle.std.proofs.Common.{◌≡◌, ◌+◌, ◌-◌, ◌*◌, [], ◌++◌}
-use Rattle.std.specs.List.{flat_map}
-use Rattle.ve_formats.specs.Lines.{numbers_below}
-use Rattle.ve_make.specs.Symmetric.{relations_of_swap, fixing_relations}
 use Rattle.ve_make.specs.Parts.{HasRoom, swaps_draft}
 use Rattle.ve_make.proofs.Building.{orders_before}
 use Rattle.ve_make.proofs.lines.add_orders_with.Given as goal

@@ -1,7 +1,6 @@
-use Rattle.std.proofs.Common.{◌≡◌, codes, ◌∷◌, ◌+◌, [], Some, arith, ap, sym, subst, refl, ◌∙◌, IsTrue, length, map}
+use Rattle.std.proofs.Common.{◌≡◌, ◌∷◌, [], Some, ap, subst, refl, ◌∙◌, length, map}
 use Rattle.ve_formats.specs.Lines.{numbers_below}
-use Rattle.ve_theory.specs.Validity.{is_name}
-use Rattle.ve_pres.specs.Drafts.{IsOpen, IsNameFault, with_letters}
+use Rattle.ve_pres.specs.Drafts.{IsNameFault, with_letters}
 use Rattle.ve_make.specs.Symmetric.{swap_name}
 use Rattle.ve_make.proofs.Swaps.{swap_is_name, no_name_fault, next_swap}
 use Rattle.ve_make.proofs.lines.add_swap.Goals as goal

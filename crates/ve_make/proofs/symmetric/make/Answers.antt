@@ -1,4 +1,4 @@
-use Rattle.std.proofs.Common.{◌≡◌, ◌+◌, ◌*◌, length, arith, ap, sym, subst, ◌∙◌, []}
+use Rattle.std.proofs.Common.{ap, sym, ◌∙◌, []}
 use Rattle.ve_make.specs.Parts.{swaps_draft}
 use Rattle.ve_make.proofs.Building.{no_swaps}
 use Rattle.ve_make.proofs.symmetric.make.Goals as goal
