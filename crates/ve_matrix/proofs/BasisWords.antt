@@ -58,17 +58,17 @@ spelled_at known (p ∷ os) (suc b) n o place found below =
     spelled_at (known ++ spelled known p ∷ []) os b n o (omega (arith, length-append known (spelled known p ∷ []))) found below
 
 -- the word of a place, by its origin
-pub word_of_origin : (os : List Origin) (b : ℕ) (o : Origin) → NameEarlierPlaces os → slice_get os b ≡ Some o → slice_index_or (words_of os) b (generator 0) ≡ spelled (words_of os) o
-word_of_origin os b o earlier found = spelled_at [] os b b o (omega arith) found (earlier b o found)
+pub word_of_origin : (os : List Origin) (b : ℕ) (o : Origin) → slice_get os b ≡ Some o → HasParentBelow b o → slice_index_or (words_of os) b (generator 0) ≡ spelled (words_of os) o
+word_of_origin os b o found below = spelled_at [] os b b o (omega arith) found below
 
 pub root_word : (os : List Origin) (b i : ℕ) → NameEarlierPlaces os → slice_get os b ≡ Some (Root i) → slice_index_or (words_of os) b (generator 0) ≡ generator i
 unfolding spelled
-root_word os b i earlier found = word_of_origin os b (Root i) earlier found
+root_word os b i earlier found = word_of_origin os b (Root i) found (earlier b (Root i) found)
 
 pub child_word : (os : List Origin) (b parent x : ℕ) → NameEarlierPlaces os → slice_get os b ≡ Some (Child parent x)
     → slice_index_or (words_of os) b (generator 0) ≡ times (slice_index_or (words_of os) parent (generator 0)) x
 unfolding spelled
-child_word os b parent x earlier found = word_of_origin os b (Child parent x) earlier found
+child_word os b parent x earlier found = word_of_origin os b (Child parent x) found (earlier b (Child parent x) found)
 
 pub length-words_of : (os : List Origin) → length (words_of os) ≡ length os
 length-words_of os = omega (arith, length-words_after [] os)

@@ -12,20 +12,20 @@ use Rattle.ve_theory.specs.Presentations.{Presentation, HasLetters, before, lett
 use Rattle.ve_theory.specs.Answers.{Action, Row, IsRow, IsNotAfter, IsRowUpTo, basis_word, dimension, matrix_row}
 use Rattle.ve_theory.specs.Laws.{IsTotalOrder}
 use Rattle.ve_theory.proofs.Reduced.{All_from_AllBefore}
+use Rattle.ve_lemmas.proofs.Lists.{All-slice_get}
 use Rattle.ve_matrix.specs.declared.answer.Answer.{Answer}
-use Rattle.ve_matrix.proofs.Tables.{at_place}
 use Rattle.ve_matrix.proofs.BasisWords.{length-words_of}
-use Rattle.ve_matrix.specs.Answers.{IsAnswerValue}
+use Rattle.ve_matrix.specs.Answers.{AnswerFits, IsAnswerValue}
 use Rattle.ve_matrix.specs.Answers.{answer_of}
-use Rattle.ve_matrix.specs.Disorders.{CanOrder, RowIsOrdered, WordsRiseBelow}
+use Rattle.ve_matrix.specs.Disorders.{RowIsOrdered, WordsRiseBelow}
 
 -- basis words have letters of the presentation
-pub word_letters : (P : Presentation) (A : Answer) (j : ℕ) → CanOrder P A → j < dimension (answer_of A).action → HasLetters P (letters (basis_word (answer_of A).action j))
+pub word_letters : (P : Presentation) (A : Answer) (j : ℕ) → AnswerFits P A → j < dimension (answer_of A).action → HasLetters P (letters (basis_word (answer_of A).action j))
 word_letters P A j order within =
     subst (λ names. All (λ x. x < length names) (letters (basis_word (answer_of A).action j))) order.shape.names (order.answer.form.words j (generator 0) within).1
 
 -- so have words that are known to be basis words
-pub known_letters : (P : Presentation) (A : Answer) (j : ℕ) (w : Word) → CanOrder P A → w ≡ basis_word (answer_of A).action j → j < length A.basis.items → HasLetters P (letters w)
+pub known_letters : (P : Presentation) (A : Answer) (j : ℕ) (w : Word) → AnswerFits P A → w ≡ basis_word (answer_of A).action j → j < length A.basis.items → HasLetters P (letters w)
 known_letters P A j w order is within =
     subst (λ v. HasLetters P (letters v)) (sym is) (word_letters P A j order (omega (arith, length-words_of A.basis.items)))
 
@@ -108,7 +108,7 @@ module _ (P : Presentation) (A : Action) (total : IsTotalOrder P) where
 
   -- a row that has no word after this one has none at its first place
   pub not_past : (row : Row) (t : ℕ × ℕ) (w : Word) → slice_get row 0 ≡ Some t → IsRowUpTo P A w row → ¬ before P w (basis_word A t.0)
-  not_past row t w first upto greater = cases (at_place (λ s. (s.0 < dimension A) × IsNotAfter P (basis_word A s.0) w) row 0 t first upto).1
+  not_past row t w first upto greater = cases (All-slice_get (λ s. (s.0 < dimension A) × IsNotAfter P (basis_word A s.0) w) row 0 t first upto).1
     where
       cases : IsNotAfter P (basis_word A t.0) w → ⊥
       cases (inl less) = total.irreflexive w (total.transitive w (basis_word A t.0) w greater less)

@@ -9,13 +9,10 @@ use mathlib.Core.Path.{fun_ext}
 use Rattle.ve_theory.specs.Combinations.{extended, IsReduced}
 use Rattle.ve_theory.specs.Answers.{Action, Row, row_times_letters}
 use Rattle.ve_theory.proofs.Remainders.{All-extended}
+use Rattle.ve_lemmas.proofs.Lists.{All-slice_get}
 use Rattle.ve_vec.specs.Tracing.{PartialTable, row_or_zero, vector_times, vector_times_letters, AreReduced, HasProducts, CanTrace}
 use Rattle.ve_trace.proofs.Vectors.{vanishes_where_absent}
 use Rattle.ve_matrix.specs.Matrices.{matrix_row_at, HasColumnsBelow, HasResidues}
-
--- what holds of each element holds of the one at a place
-pub at_place : {X : Type 0} (P : X → Type 0) (xs : List X) (i : ℕ) (x : X) → slice_get xs i ≡ Some x → All P xs → P x
-at_place P xs i x is all = subst P (get_or_from_slice_get xs i x x is) (all i x (slice_get_within xs i x is))
 
 -- each letter's matrix
 abbrev pub as_table : (ℕ → List Row) → PartialTable
@@ -38,7 +35,7 @@ times_letters A v (x ∷ u) =
     ∙ times_letters A (extended (matrix_row_at (slice_index_or A.matrices x [])) v) u
 
 pub rows_reduced : (p : ℕ) (matrices : ℕ → List Row) → ((x : ℕ) → HasResidues p (matrices x)) → AreReduced p (as_table matrices)
-rows_reduced p matrices residues b x v is = at_place (IsReduced ◌<◌ p) (matrices x) b v is (residues x)
+rows_reduced p matrices residues b x v is = All-slice_get (IsReduced ◌<◌ p) (matrices x) b v is (residues x)
 
 -- a vector with places below n, times a matrix with columns below n, has places below n
 pub placed_times : (n : ℕ) (matrix : List Row) (v : Row) → HasColumnsBelow n matrix → All (λ t. t.0 < n) (extended (matrix_row_at matrix) v)

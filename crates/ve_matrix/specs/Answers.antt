@@ -1,7 +1,9 @@
 -- What contracts see of answers.
 use Rattle.std.specs.Prelude.{◌≡◌, ℕ, ◌<◌, ◌^◌, Some, List, length, slice_get}
 use Rattle.ve_theory.specs.Residues.{IsFieldPrime}
-use Rattle.ve_theory.specs.Answers.{Answer as ModuleAnswer, IsWellFormed}
+use Rattle.ve_theory.specs.Presentations.{Presentation}
+use Rattle.ve_theory.specs.Validity.{IsValid}
+use Rattle.ve_theory.specs.Answers.{Answer as ModuleAnswer, HasShape, IsWellFormed}
 use Rattle.ve_table.specs.declared.origin.Origin.{Origin}
 use Rattle.ve_table.specs.Books.{words_of}
 use Rattle.ve_table.specs.Numbers.{HasParentBelow}
@@ -28,3 +30,9 @@ pub record IsAnswerValue (A : Answer) : Type 0 where
   pub form : IsWellFormed (answer_of A)
   pub dimension : length A.basis.items < 2 ^ 32
   pub origins : NameEarlierPlaces A.basis.items
+
+-- the answer has the shape of a valid presentation, so that relations can be traced along its rows, and its words compared
+pub record AnswerFits (P : Presentation) (A : Answer) : Type 0 where
+  pub valid : IsValid P
+  pub answer : IsAnswerValue A
+  pub shape : HasShape P (answer_of A)

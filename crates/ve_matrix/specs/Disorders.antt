@@ -2,12 +2,9 @@
 use Rattle.std.specs.Prelude.{ℕ, zero, suc, ◌+◌, ◌-◌, ◌<◌, AllPairs}
 use Rattle.ve_theory.specs.Words.{generator, times}
 use Rattle.ve_theory.specs.Presentations.{Presentation, before, letter_count}
-use Rattle.ve_theory.specs.Validity.{IsValid}
-use Rattle.ve_theory.specs.Answers.{Action, HasShape, IsRowUpTo, basis_word, dimension, image_row, matrix_row}
-use Rattle.ve_matrix.specs.declared.answer.Answer.{Answer}
+use Rattle.ve_theory.specs.Answers.{Action, IsRowUpTo, basis_word, dimension, image_row, matrix_row}
 use Rattle.ve_matrix.specs.declared.disorder.Disorder.{Disorder}
 use Rattle.ve_matrix.specs.declared.disorder.Disorder.TheVariants.{Rising, Above}
-use Rattle.ve_matrix.specs.Answers.{answer_of, IsAnswerValue}
 
 -- the row of a generator, or of a basis word times a letter, has no word after it
 abbrev pub ImageIsOrdered : Presentation → Action → ℕ → Type 0
@@ -67,9 +64,3 @@ unfoldable pub IsDisorder : Presentation → Action → Disorder → Type 0
 IsDisorder P A (Rising row) = (0 < row) × FallsFirst P A (row - 1)
 IsDisorder P A (Above zero row) = (0 < row) × ImageFailsFirst P A (row - 1)
 IsDisorder P A (Above (suc x) row) = (0 < row) × RowFailsFirst P A x (row - 1)
-
--- the answer has the presentation's shape, so that its words can be compared in the presentation's order
-pub record CanOrder (P : Presentation) (A : Answer) : Type 0 where
-  pub valid : IsValid P
-  pub answer : IsAnswerValue A
-  pub shape : HasShape P (answer_of A)

@@ -5,8 +5,8 @@ ghost use Rattle.ve_theory.specs.Words.{letters};
 ghost use Rattle.ve_theory.specs.Presentations.{HasLetters, before, letter_count};
 ghost use Rattle.ve_theory.specs.Validity.{IsValid};
 ghost use Rattle.ve_theory.specs.Answers.{HasShape, IsOrdered, IsRow, IsRowUpTo, dimension};
-ghost use Rattle.ve_matrix.specs.Answers.{IsAnswerValue, answer_of};
-ghost use Rattle.ve_matrix.specs.Disorders.{CanOrder, FallsFirst, ImageFailsFirst, ImagesAreOrderedBelow, IsDisorder, IsFirstAbove, IsFirstRowAbove, MatricesAreOrderedBelow, RowsAreOrderedBelow};
+ghost use Rattle.ve_matrix.specs.Answers.{AnswerFits, IsAnswerValue, answer_of};
+ghost use Rattle.ve_matrix.specs.Disorders.{FallsFirst, ImageFailsFirst, ImagesAreOrderedBelow, IsDisorder, IsFirstAbove, IsFirstRowAbove, MatricesAreOrderedBelow, RowsAreOrderedBelow};
 
 use crate::Answer;
 use std::cmp::Ordering;
@@ -53,7 +53,7 @@ impl Answer {
 
     /// The first basis word that isn't after the one before it.
     fn first_fall(&self, presentation: &Presentation) -> Result<Option<u32>, Memory>
-        requires { CanOrder presentation.now.presentation self.now }
+        requires { AnswerFits presentation.now.presentation self.now }
         ensures { IfOk result (λ place. MatchOption place
             (AllPairs (before presentation.now.presentation) (answer_of self.now).action.basis)
             (FallsFirst presentation.now.presentation (answer_of self.now).action)) }
@@ -76,7 +76,7 @@ impl Answer {
 
     /// The first generator whose row has a word after it.
     fn first_image_above(&self, presentation: &Presentation) -> Result<Option<u8>, Memory>
-        requires order { CanOrder presentation.now.presentation self.now }
+        requires order { AnswerFits presentation.now.presentation self.now }
         requires rising { AllPairs (before presentation.now.presentation) (answer_of self.now).action.basis }
         ensures { IfOk result (λ root. MatchOption root
             (ImagesAreOrderedBelow presentation.now.presentation (answer_of self.now).action presentation.now.presentation.generators)
@@ -95,7 +95,7 @@ impl Answer {
 
     /// The first letter with a row that has a word after its own, and the first such row.
     fn first_row_above(&self, presentation: &Presentation) -> Result<Option<(u8, u32)>, Memory>
-        requires order { CanOrder presentation.now.presentation self.now }
+        requires order { AnswerFits presentation.now.presentation self.now }
         requires rising { AllPairs (before presentation.now.presentation) (answer_of self.now).action.basis }
         ensures { IfOk result (λ row. MatchOption row
             (MatricesAreOrderedBelow presentation.now.presentation (answer_of self.now).action (letter_count presentation.now.presentation))
@@ -111,7 +111,7 @@ impl Answer {
 
     /// The first row of a letter that has a word after its own.
     fn first_above(&self, presentation: &Presentation, letter: u8) -> Result<Option<u32>, Memory>
-        requires order { CanOrder presentation.now.presentation self.now }
+        requires order { AnswerFits presentation.now.presentation self.now }
         requires rising { AllPairs (before presentation.now.presentation) (answer_of self.now).action.basis }
         requires letter { letter < length self.now.names }
         ensures { IfOk result (λ place. MatchOption place
@@ -136,7 +136,7 @@ impl Answer {
         row: &Sparse,
         word: &Word,
     ) -> Result<bool, Memory>
-        requires order { CanOrder presentation.now.presentation self.now }
+        requires order { AnswerFits presentation.now.presentation self.now }
         requires rising { AllPairs (before presentation.now.presentation) (answer_of self.now).action.basis }
         requires row { IsRow self.now.field (dimension (answer_of self.now).action) row.now }
         requires word { HasLetters presentation.now.presentation (letters word.now) }

@@ -1,10 +1,10 @@
 use Rattle.std.proofs.Common.{◌<◌, length, ap, arith, below_more}
 use Rattle.ve_theory.specs.Answers.{IsRow, dimension}
+use Rattle.ve_lemmas.proofs.Lists.{All-slice_get}
 use Rattle.ve_matrix.specs.Answers.{answer_of}
 use Rattle.ve_matrix.specs.Disorders.{RowIsOrdered}
 use Rattle.ve_matrix.proofs.BasisWords.{length-words_of}
 use Rattle.ve_matrix.proofs.RisingWords.{letter_matrix, known_letters, child_letters, row_judged, denied}
-use Rattle.ve_matrix.proofs.Tables.{at_place}
 use Rattle.ve_matrix.proofs.answer.Answer.first_above.Goals as goal
 
 pub basis_word-requires-clause-place : goal.basis_word-requires-clause-place
@@ -15,7 +15,7 @@ basis_word-requires-clause-place c =
 pub is_up_to-requires-clause-row : goal.is_up_to-requires-clause-row
 is_up_to-requires-clause-row c =
     let matrix = letter_matrix c.args.self.now c.args.letter c.from.result c.index-matrix.result.now c.requires.order.answer c.from.ensures c.requires.letter c.index-matrix.ensures in
-    at_place (IsRow c.args.self.now.field (dimension (answer_of c.args.self.now).action)) c.index-matrix.result.now c.loop-place.place c.row.result.now c.row.ensures matrix.rows
+    All-slice_get (IsRow c.args.self.now.field (dimension (answer_of c.args.self.now).action)) c.index-matrix.result.now c.loop-place.place c.row.result.now c.row.ensures matrix.rows
 
 pub is_up_to-requires-clause-word : goal.is_up_to-requires-clause-word
 is_up_to-requires-clause-word c =
