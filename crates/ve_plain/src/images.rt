@@ -55,7 +55,7 @@ impl Work {
         tracing_is_known();
         self.table.is_sound();
         let image = image_of(self.alloc, &self.table, id, letter)?;
-        self.impose(&image)?;
+        self.impose(image)?;
         Ok(())
     }
 }

@@ -80,7 +80,7 @@ impl Work {
         tracing_is_known();
         self.table.is_sound();
         let vector = traced_relator(self.alloc, &self.table, id, number)?;
-        self.impose(&vector)?;
+        self.impose(vector)?;
         self.settle()?;
         Ok(())
     }
@@ -97,7 +97,7 @@ impl Work {
         tracing_is_known();
         self.table.is_sound();
         let vector = traced_submodule_relation(self.alloc, &self.table, number)?;
-        self.impose(&vector)?;
+        self.impose(vector)?;
         self.settle()?;
         Ok(())
     }

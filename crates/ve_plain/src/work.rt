@@ -10,7 +10,7 @@ ghost use Rattle.ve_plain.specs.Working.{Continues, Vanishes};
 use std::alloc::Global;
 use ve_machine::forwards::{deaths_keep, forwardings_are_a_space};
 use ve_machine::work::stays_under_way;
-use ve_settle::{delete, resolve, rewrite};
+use ve_settle::{delete, into_resolved, rewrite};
 use ve_table::{Origin, Table};
 use ve_theory::derivations::levels_are_closed;
 use ve_theory::elements::sums_add_coefficients;
@@ -42,11 +42,11 @@ impl Work {
     }
 
     /// Makes the greatest id of a vanishing vector dead, once the vector has live ids alone.
-    pub(crate) fn impose(&mut self, vector: &Sparse) -> Result<(), Memory>
-        requires row { IsRow (presented self.old.table).prime (length self.old.table.words) vector.now }
-        requires vanishes { DerivedWithin (presented self.old.table) self.old.table.level (element_of self.old.table vector.now) }
+    pub(crate) fn impose(&mut self, vector: Sparse) -> Result<(), Memory>
+        requires row { IsRow (presented self.old.table).prime (length self.old.table.words) vector }
+        requires vanishes { DerivedWithin (presented self.old.table) self.old.table.level (element_of self.old.table vector) }
         ensures continues { Continues self.old.table self.new.table }
-        ensures ok { OnOk result (Imposes self.old vector.now self.new) }
+        ensures ok { OnOk result (Imposes self.old vector self.new) }
     {
         if let Some(id) = delete_resolved(self.alloc, &mut self.table, vector)? {
             self.waiting.push(id)?;
@@ -57,10 +57,10 @@ impl Work {
 }
 
 /// Resolves a vector that vanishes and deletes it. The id that died, if one did.
-fn delete_resolved(alloc: Global, table: &mut Table, vector: &Sparse) -> Result<Option<u32>, Memory>
-    requires row { IsRow (presented table.old).prime (length table.old.words) vector.now }
-    requires vanishes { DerivedWithin (presented table.old) table.old.level (element_of table.old vector.now) }
-    ensures ok { IfOk result (λ died. Vanishes table.old vector.now died table.new) }
+fn delete_resolved(alloc: Global, table: &mut Table, vector: Sparse) -> Result<Option<u32>, Memory>
+    requires row { IsRow (presented table.old).prime (length table.old.words) vector }
+    requires vanishes { DerivedWithin (presented table.old) table.old.level (element_of table.old vector) }
+    ensures ok { IfOk result (λ died. Vanishes table.old vector died table.new) }
     ensures err { OnErr result (table.new ≡ table.old) }
     ensures sound { IsSound table.new }
 {
@@ -70,7 +70,7 @@ fn delete_resolved(alloc: Global, table: &mut Table, vector: &Sparse) -> Result<
     deaths_keep();
     stays_under_way();
     table.is_sound();
-    let resolved = resolve(alloc, table, vector)?;
+    let resolved = into_resolved(alloc, table, vector)?;
     Ok(delete(table, resolved))
 }
 

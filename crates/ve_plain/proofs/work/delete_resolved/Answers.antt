@@ -9,9 +9,9 @@ delete-requires-clause-derived c =
     let T = c.args.table.now in
     derived_too c.levels_are_closed.ensures c.sums_add_coefficients.ensures (presented T)
     (prime-large (presented T).prime c.is_sound.ensures.valid.presentation.field)
-    T.level (element_of T c.args.vector.now) (element_of T c.in_ok-resolved.resolved) c.requires.vanishes c.in_ok-resolved.ensures.derived
+    T.level (element_of T c.args.vector) (element_of T c.in_ok-resolved.resolved) c.requires.vanishes c.in_ok-resolved.ensures.derived
 
 pub returns-clause-ok : goal.returns-clause-ok
 returns-clause-ok c =
-    vanishes c.forwardings_are_a_space.ensures c.deaths_keep.ensures c.stays_under_way.ensures c.args.table.now c.delete.new.table c.args.vector.now c.in_ok-resolved.resolved
+    vanishes c.forwardings_are_a_space.ensures c.deaths_keep.ensures c.stays_under_way.ensures c.args.table.now c.delete.new.table c.args.vector c.in_ok-resolved.resolved
     c.is_sound.ensures c.delete.ensures.sound c.in_ok-resolved.ensures.resolved c.delete.result c.delete.ensures.zero c.delete.ensures.same c.delete.ensures.dead
