@@ -3,7 +3,6 @@ pub mod FewRelations
 pub mod SameNames
 pub mod Tracing
 pub mod Vanishing
-pub mod OriginWords
 pub mod OwnRows
 pub mod Units
 pub mod PairAnswers

@@ -12,10 +12,9 @@ use Rattle.ve_table.specs.declared.origin.Origin.{Origin}
 use Rattle.ve_table.specs.declared.origin.Origin.TheVariants.{Root, Child}
 use Rattle.ve_table.specs.Books.{spelled}
 use Rattle.ve_matrix.specs.declared.answer.Answer.{Answer}
-use Rattle.ve_matrix.specs.Answers.{IsAnswerValue, answer_of}
-use Rattle.ve_check.specs.Failures.{CanCheck}
+use Rattle.ve_matrix.specs.Answers.{AnswerFits, IsAnswerValue, answer_of}
+use Rattle.ve_matrix.proofs.BasisWords.{length-words_of, word_of_origin}
 use Rattle.ve_check.specs.OriginRows.{HasRow, row_by_origin}
-use Rattle.ve_check.proofs.OriginWords.{length-words_of, word_of_origin}
 
 -- an origin of the basis has a row
 pub origin_has_row : (A : Answer) (b : ℕ) (o : Origin) → IsAnswerValue A → slice_get A.basis.items b ≡ Some o → HasRow A o
@@ -57,7 +56,7 @@ word_row_by_origin p A b (Child parent x) extend value found own =
     ∙ extend.rows.units p (matrix_row action x) parent k)
 
 -- a test of the row by the origin says whether the word has its own row
-pub own_row_told : (P : Presentation) (A : Answer) (b : ℕ) (o : Origin) (row : Row) (is : Bool) → SumsExtend → ReducedListsAreUnique → CanCheck P A → 1 < P.prime
+pub own_row_told : (P : Presentation) (A : Answer) (b : ℕ) (o : Origin) (row : Row) (is : Bool) → SumsExtend → ReducedListsAreUnique → AnswerFits P A → 1 < P.prime
     → slice_get A.basis.items b ≡ Some o → HaveOwnRowsBelow P (answer_of A).action b → row ≡ row_by_origin (answer_of A).action o
     → (IsTrue is ↔ (row ≡ unit b)) → IsTrue is ↔ HasOwnRow P (answer_of A).action b
 unfolding IsReduced AllBefore

@@ -9,9 +9,8 @@ use Rattle.ve_theory.proofs.Remainders.{All-unit}
 use Rattle.ve_vec.specs.Tracing.{CanTrace, CanTraceElement}
 use Rattle.ve_trace.specs.Found.{HasOwnRelations}
 use Rattle.ve_matrix.specs.declared.answer.Answer.{Answer}
-use Rattle.ve_matrix.specs.Answers.{answer_of}
+use Rattle.ve_matrix.specs.Answers.{AnswerFits, answer_of}
 use Rattle.ve_matrix.specs.Evaluating.{IsAnswerWord, IsTraced, answer_table}
-use Rattle.ve_check.specs.Failures.{CanCheck}
 
 -- the rows of a well formed answer name basis words alone
 pub rows_placed : (P : Presentation) (A : ModuleAnswer) → HasShape P A → IsWellFormed A → HasPlacedRows P A.action
@@ -22,7 +21,7 @@ rows_placed P A shape form = record {
       (form.matrices x [] there j [] (omega (arith, within, form.square x [] there))).1;
 }
 
-module _ (P : Presentation) (A : Answer) (check : CanCheck P A) (own : HasOwnRelations P) where
+module _ (P : Presentation) (A : Answer) (check : AnswerFits P A) (own : HasOwnRelations P) where
   pub relator_residues : (number : ℕ) → number < length (relators P) → All (λ t. t.1 < A.field) (relator P number)
   relator_residues number within = subst (λ p. All (λ t. t.1 < p) (relator P number)) (sym check.shape.prime) (own.residues number within)
 

@@ -1,16 +1,7 @@
--- What is known where the relations of a presentation are looked at on an answer.
+-- What doesn't vanish first where the relations of a presentation are looked at on an answer.
 use Rattle.std.specs.Prelude.{ℕ, ◌<◌, length}
 use Rattle.ve_theory.specs.Presentations.{Presentation, relators}
-use Rattle.ve_theory.specs.Validity.{IsValid}
-use Rattle.ve_theory.specs.Answers.{Action, HasShape, HaveOwnRowsBelow, RelatorVanishes, RelatorsVanishBelow, SubmoduleVanishesBelow, dimension}
-use Rattle.ve_matrix.specs.declared.answer.Answer.{Answer}
-use Rattle.ve_matrix.specs.Answers.{IsAnswerValue, answer_of}
-
--- the answer has the presentation's shape, so that relations can be traced along its rows
-pub record CanCheck (P : Presentation) (A : Answer) : Type 0 where
-  pub valid : IsValid P
-  pub answer : IsAnswerValue A
-  pub shape : HasShape P (answer_of A)
+use Rattle.ve_theory.specs.Answers.{Action, HaveOwnRowsBelow, RelatorVanishes, RelatorsVanishBelow, SubmoduleVanishesBelow, dimension}
 
 -- all relators vanish; all submodule relations do; all basis words have their own rows
 abbrev pub RelatorsVanish : Presentation → Action → Type 0

@@ -4,8 +4,8 @@ ghost use Rattle.std.specs.Prelude.{◌<◌, ◌↔◌, IfOk, IsTrue, MatchOptio
 ghost use Rattle.ve_theory.specs.Presentations.{relators};
 ghost use Rattle.ve_theory.specs.Answers.{RelatorVanishes, SubmoduleVanishes, dimension};
 ghost use Rattle.ve_theory.specs.Verdicts.{RelatorFailsFirst, SubmoduleFailsFirst};
-ghost use Rattle.ve_matrix.specs.Answers.{answer_of};
-ghost use Rattle.ve_check.specs.Failures.{CanCheck, IsFirstRow, RelatorsVanish, SubmoduleRelationsVanish, VanishesOnRows};
+ghost use Rattle.ve_matrix.specs.Answers.{AnswerFits, answer_of};
+ghost use Rattle.ve_check.specs.Failures.{IsFirstRow, RelatorsVanish, SubmoduleRelationsVanish, VanishesOnRows};
 
 use ve_matrix::{Answer, answers_are_traced};
 use ve_pres::Presentation;
@@ -19,7 +19,7 @@ pub(crate) fn failing_relator(
     presentation: &Presentation,
     answer: &Answer,
 ) -> Result<Option<(u32, u32)>, Memory>
-    requires { CanCheck presentation.now.presentation answer.now }
+    requires { AnswerFits presentation.now.presentation answer.now }
     ensures { IfOk result (λ failure. MatchOption failure
         (RelatorsVanish presentation.now.presentation (answer_of answer.now).action)
         (λ f. RelatorFailsFirst presentation.now.presentation (answer_of answer.now) f.0 f.1)) }
@@ -38,7 +38,7 @@ fn failing_row(
     answer: &Answer,
     number: u32,
 ) -> Result<Option<u32>, Memory>
-    requires check { CanCheck presentation.now.presentation answer.now }
+    requires check { AnswerFits presentation.now.presentation answer.now }
     requires number { number < length (relators presentation.now.presentation) }
     ensures { IfOk result (λ row. MatchOption row
         (VanishesOnRows presentation.now.presentation (answer_of answer.now).action number)
@@ -59,7 +59,7 @@ fn relator_vanishes(
     number: u32,
     row: u32,
 ) -> Result<bool, Memory>
-    requires check { CanCheck presentation.now.presentation answer.now }
+    requires check { AnswerFits presentation.now.presentation answer.now }
     requires number { number < length (relators presentation.now.presentation) }
     requires row { row < dimension (answer_of answer.now).action }
     ensures { IfOk result (λ vanishes. IsTrue vanishes
@@ -79,7 +79,7 @@ pub(crate) fn failing_sub(
     presentation: &Presentation,
     answer: &Answer,
 ) -> Result<Option<u32>, Memory>
-    requires check { CanCheck presentation.now.presentation answer.now }
+    requires check { AnswerFits presentation.now.presentation answer.now }
     requires relators { RelatorsVanish presentation.now.presentation (answer_of answer.now).action }
     ensures { IfOk result (λ failure. MatchOption failure
         (SubmoduleRelationsVanish presentation.now.presentation (answer_of answer.now).action)
@@ -95,7 +95,7 @@ pub(crate) fn failing_sub(
 
 /// Whether a submodule relation vanishes.
 fn sub_vanishes(presentation: &Presentation, answer: &Answer, number: u32) -> Result<bool, Memory>
-    requires check { CanCheck presentation.now.presentation answer.now }
+    requires check { AnswerFits presentation.now.presentation answer.now }
     requires number { number < length presentation.now.presentation.submodule }
     ensures { IfOk result (λ vanishes. IsTrue vanishes
         ↔ SubmoduleVanishes presentation.now.presentation (answer_of answer.now).action number) }

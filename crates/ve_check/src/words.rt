@@ -3,8 +3,8 @@
 ghost use Rattle.std.specs.Prelude.{◌≡◌, ◌↔◌, IsTrue, MatchOption};
 ghost use Rattle.ve_theory.specs.Combinations.{unit};
 ghost use Rattle.ve_theory.specs.Verdicts.{BasisWordFailsFirst};
-ghost use Rattle.ve_matrix.specs.Answers.{IsAnswerValue, answer_of};
-ghost use Rattle.ve_check.specs.Failures.{CanCheck, HaveOwnRows, RelatorsVanish, SubmoduleRelationsVanish};
+ghost use Rattle.ve_matrix.specs.Answers.{AnswerFits, IsAnswerValue, answer_of};
+ghost use Rattle.ve_check.specs.Failures.{HaveOwnRows, RelatorsVanish, SubmoduleRelationsVanish};
 ghost use Rattle.ve_check.specs.OriginRows.{HasRow, row_by_origin};
 
 use ve_matrix::Answer;
@@ -15,7 +15,7 @@ use ve_vec::{Sparse, Term};
 
 /// The first basis word whose value isn't its own unit row.
 pub(crate) fn failing_word(presentation: &Presentation, answer: &Answer) -> Option<u32>
-    requires check { CanCheck presentation.now.presentation answer.now }
+    requires check { AnswerFits presentation.now.presentation answer.now }
     requires relators { RelatorsVanish presentation.now.presentation (answer_of answer.now).action }
     requires submodule { SubmoduleRelationsVanish presentation.now.presentation (answer_of answer.now).action }
     ensures { MatchOption result

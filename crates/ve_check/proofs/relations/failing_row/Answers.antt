@@ -1,6 +1,6 @@
 use Rattle.std.proofs.Common.{sym, ◌∙◌, arith}
 use Rattle.std.proofs.lemmas.Bool.{true≢false}
-use Rattle.ve_check.proofs.OriginWords.{length-words_of}
+use Rattle.ve_matrix.proofs.BasisWords.{length-words_of}
 use Rattle.ve_check.proofs.relations.failing_row.Goals as goal
 
 pub relator_vanishes-requires-clause-row : goal.relator_vanishes-requires-clause-row

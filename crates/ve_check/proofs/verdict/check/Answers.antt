@@ -3,9 +3,9 @@ use Rattle.std.proofs.lemmas.Bool.{true≢false}
 use Rattle.std.proofs.lemmas.Option.{MatchOption-at_none, MatchOption-at_some}
 use Rattle.ve_theory.specs.Verdicts.{RelatorFailsFirst}
 use Rattle.ve_matrix.specs.Answers.{answer_of}
+use Rattle.ve_matrix.proofs.BasisWords.{length-words_of}
 use Rattle.ve_check.proofs.FewRelations.{few_relators}
 use Rattle.ve_check.proofs.Naming.{says_basis_word, says_relator, says_shape, says_submodule, says_yes}
-use Rattle.ve_check.proofs.OriginWords.{length-words_of}
 use Rattle.ve_check.proofs.Tracing.{rows_placed}
 use Rattle.ve_check.proofs.verdict.check.Goals as goal
 

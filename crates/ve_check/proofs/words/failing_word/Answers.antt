@@ -3,7 +3,7 @@ use Rattle.std.proofs.lemmas.Bool.{true≢false}
 use Rattle.std.proofs.lemmas.Option.{slice_get_read}
 use Rattle.ve_theory.specs.Answers.{HasOwnRow}
 use Rattle.ve_matrix.specs.Answers.{answer_of}
-use Rattle.ve_check.proofs.OriginWords.{length-words_of}
+use Rattle.ve_matrix.proofs.BasisWords.{length-words_of}
 use Rattle.ve_check.proofs.OwnRows.{origin_has_row, own_row_told}
 use Rattle.ve_check.proofs.words.failing_word.Goals as goal
 

@@ -2,8 +2,8 @@ use Rattle.std.proofs.Common.{◌≡◌, ◌<◌, [], length, slice_index_or, re
 use Rattle.std.proofs.lemmas.List.{get_or_read_under}
 use Rattle.std.proofs.lemmas.Option.{get_or_from_slice_get}
 use Rattle.ve_matrix.specs.Answers.{answer_of}
+use Rattle.ve_matrix.proofs.BasisWords.{length-words_of}
 use Rattle.ve_check.specs.OriginRows.{HasRow, row_by_origin}
-use Rattle.ve_check.proofs.OriginWords.{length-words_of}
 use Rattle.ve_check.proofs.words.row_of.Goals as goal
 
 pub row-requires : goal.row-requires
