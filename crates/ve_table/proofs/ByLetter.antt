@@ -1,6 +1,6 @@
 -- Rows in one list, by id and then letter, put into a list for each letter.
-use Rattle.std.proofs.Common.{◌≡◌, ℕ, ◌+◌, ◌*◌, ◌-◌, ◌<◌, ◌≤◌, inl, inr, None, Some, List, [], ◌∷◌, ◌++◌, length, get_or, take, refl, sym, ap, ap₂, subst, ◌∙◌, arith, Vec, Global}
-use Rattle.std.specs.Prelude.{Option, All, reverse, slice_get}
+use Rattle.std.proofs.Common.{◌≡◌, ℕ, ◌+◌, ◌*◌, ◌-◌, ◌<◌, ◌≤◌, inl, inr, Some, List, [], ◌∷◌, ◌++◌, length, get_or, take, refl, sym, ap, ap₂, subst, ◌∙◌, arith, Vec, Global}
+use Rattle.std.specs.Prelude.{All, reverse, slice_get}
 use Rattle.std.proofs.Math.ListN.{set, length-set, get_or-append}
 use Rattle.std.proofs.Math.Nat.{mul-le-mul_right}
 use Rattle.std.proofs.lemmas.Bool.{cases_eq, cases_lt}
@@ -10,7 +10,7 @@ use Rattle.ve_theory.specs.Answers.{Row}
 use Rattle.ve_table.specs.ByLetter.{AreRowsOfLetter, AreDealt}
 
 -- nothing is dealt yet
-pub none_dealt : (letters : ℕ) (rows : List (Option Row)) (lists : List (Vec Row Global)) → length lists ≡ letters → All (λ (list : Vec Row Global). list.items ≡ []) lists → AreDealt letters 0 0 rows lists
+pub none_dealt : (letters : ℕ) (rows : List Row) (lists : List (Vec Row Global)) → length lists ≡ letters → All (λ (list : Vec Row Global). list.items ≡ []) lists → AreDealt letters 0 0 rows lists
 none_dealt letters rows lists count empty = record {
   count = count;
   below = λ x list found before. absurd (omega (arith, before));
@@ -23,11 +23,11 @@ none_dealt letters rows lists count empty = record {
         subst P (get_or_from_slice_get lists x list list found) (empty x list (slice_get_within lists x list found))
 
 -- one more row
-pub row_more : (letters ids x : ℕ) (rows : List (Option Row)) (list : List Row) (w : Row)
-    → AreRowsOfLetter letters ids x rows list → get_or rows (ids * letters + x) None ≡ Some w → AreRowsOfLetter letters (ids + 1) x rows (list ++ w ∷ [])
+pub row_more : (letters ids x : ℕ) (rows : List Row) (list : List Row) (w : Row)
+    → AreRowsOfLetter letters ids x rows list → get_or rows (ids * letters + x) [] ≡ w → AreRowsOfLetter letters (ids + 1) x rows (list ++ w ∷ [])
 row_more letters ids x rows list w are here = record { count = omega (arith, are.count, length_push list w); each = each }
   where
-    each : (b : ℕ) (v : Row) → slice_get (list ++ w ∷ []) b ≡ Some v → get_or rows (b * letters + x) None ≡ Some v
+    each : (b : ℕ) (v : Row) → slice_get (list ++ w ∷ []) b ≡ Some v → get_or rows (b * letters + x) [] ≡ v
     each b v found = elim (cases_lt b (length list)) [
       | inl before ↦
           let same : get_or list b v ≡ v = sym (get_or-append list (w ∷ []) v b before) ∙ get_or_from_slice_get (list ++ w ∷ []) b v v found in
@@ -36,11 +36,11 @@ row_more letters ids x rows list w are here = record { count = omega (arith, are
           let within : b < length (list ++ w ∷ []) = slice_get_within (list ++ w ∷ []) b v found in
           let last : length list ≡ b = omega (arith, length_push list w, past, within) in
           let same : w ≡ v = sym (get_or_push list w v b last) ∙ get_or_from_slice_get (list ++ w ∷ []) b v v found in
-          ap (λ a. get_or rows (a * letters + x) None) (sym last ∙ are.count) ∙ here ∙ ap Some same
+          ap (λ a. get_or rows (a * letters + x) []) (sym last ∙ are.count) ∙ here ∙ same
     ]
 
 -- all letters are dealt once more
-pub round_ends : (letters ids letter : ℕ) (rows : List (Option Row)) (lists : List (Vec Row Global)) → letters ≤ letter → AreDealt letters ids letter rows lists → AreDealt letters (ids + 1) 0 rows lists
+pub round_ends : (letters ids letter : ℕ) (rows : List Row) (lists : List (Vec Row Global)) → letters ≤ letter → AreDealt letters ids letter rows lists → AreDealt letters (ids + 1) 0 rows lists
 round_ends letters ids letter rows lists all are = record {
   count = are.count;
   below = λ x list found before. absurd (omega (arith, before));
@@ -48,9 +48,9 @@ round_ends letters ids letter rows lists all are = record {
 }
 
 -- one letter of a round
-module _ (letters ids letter : ℕ) (rows : List (Option Row)) (lists : List (Vec Row Global)) (old list : Vec Row Global) (w : Row)
+module _ (letters ids letter : ℕ) (rows : List Row) (lists : List (Vec Row Global)) (old list : Vec Row Global) (w : Row)
     (are : AreDealt letters ids letter rows lists) (found : slice_get lists letter ≡ Some old)
-    (pushed : list.items ≡ old.items ++ w ∷ []) (here : get_or rows (ids * letters + letter) None ≡ Some w) where
+    (pushed : list.items ≡ old.items ++ w ∷ []) (here : get_or rows (ids * letters + letter) [] ≡ w) where
   elsewhere : (x : ℕ) (l : Vec Row Global) → (x ≡ letter → ⊥) → slice_get (set lists letter list) x ≡ Some l → slice_get lists x ≡ Some l
   elsewhere x l other at =
       let within : x < length lists = (let inside : x < length (set lists letter list) = slice_get_within (set lists letter list) x l at in omega (arith, inside, length-set lists letter list)) in
@@ -81,6 +81,9 @@ module _ (letters ids letter : ℕ) (rows : List (Option Row)) (lists : List (Ve
 module _ {X : Type 0} (all old : List X) (n : ℕ) (are : old ≡ take (length all - n) (reverse all)) (some : n < length all) where
   width : length old ≡ length all - n
   width = ap length are ∙ length-take-le (length all - n) (reverse all) (omega (arith, length-reverse all))
+
+  pub some_left : 0 < length old
+  some_left = omega (arith, width, some)
 
   pub next_left : take (length old - 1) old ≡ take (length all - (n + 1)) (reverse all)
   next_left =

@@ -110,32 +110,32 @@ module _ {X : Type 0} (names : List X) where
 
 -- the list of rows with the units of births
 
-pub count_with_births : (n first : ℕ) (rows : List (Option Row)) (bs : List Birth) → length (with_births_from n first rows bs) ≡ length rows
+pub count_with_births : (n first : ℕ) (rows : List Row) (bs : List Birth) → length (with_births_from n first rows bs) ≡ length rows
 unfolding with_births_from
 count_with_births n first rows [] = refl
-count_with_births n first rows (b ∷ bs) = count_with_births n (first + 1) (set rows (b.parent * n + b.letter) (Some (unit first))) bs ∙ length-set rows (b.parent * n + b.letter) (Some (unit first))
+count_with_births n first rows (b ∷ bs) = count_with_births n (first + 1) (set rows (b.parent * n + b.letter) (unit first)) bs ∙ length-set rows (b.parent * n + b.letter) (unit first)
 
-pub with_births_push : (n first : ℕ) (rows : List (Option Row)) (bs : List Birth) (b : Birth)
-    → with_births_from n first rows (bs ++ b ∷ []) ≡ set (with_births_from n first rows bs) (b.parent * n + b.letter) (Some (unit (first + length bs)))
+pub with_births_push : (n first : ℕ) (rows : List Row) (bs : List Birth) (b : Birth)
+    → with_births_from n first rows (bs ++ b ∷ []) ≡ set (with_births_from n first rows bs) (b.parent * n + b.letter) (unit (first + length bs))
 unfolding with_births_from
-with_births_push n first rows [] b = ap (λ m. set rows (b.parent * n + b.letter) (Some (unit m))) (let e : first ≡ first + 0 = omega arith in e)
-with_births_push n first rows (c ∷ bs) b = with_births_push n (first + 1) (set rows (c.parent * n + c.letter) (Some (unit first))) bs b ∙ ap (λ m. set (with_births_from n (first + 1) (set rows (c.parent * n + c.letter) (Some (unit first))) bs) (b.parent * n + b.letter) (Some (unit m))) (omega arith)
+with_births_push n first rows [] b = ap (λ m. set rows (b.parent * n + b.letter) (unit m)) (let e : first ≡ first + 0 = omega arith in e)
+with_births_push n first rows (c ∷ bs) b = with_births_push n (first + 1) (set rows (c.parent * n + c.letter) (unit first)) bs b ∙ ap (λ m. set (with_births_from n (first + 1) (set rows (c.parent * n + c.letter) (unit first)) bs) (b.parent * n + b.letter) (unit m)) (omega arith)
 
-pub no_births : (n first : ℕ) (rows : List (Option Row)) → rows ≡ with_births_from n first rows []
+pub no_births : (n first : ℕ) (rows : List Row) → rows ≡ with_births_from n first rows []
 unfolding with_births_from
 no_births n first rows = refl
 
-pub one_more_unit : (n first i : ℕ) (rows : List (Option Row)) (bs : List Birth) (d : Birth) → i < length bs
-    → set (with_births_from n first rows (take i bs)) ((get_or bs i d).parent * n + (get_or bs i d).letter) (Some (unit (first + i))) ≡ with_births_from n first rows (take (i + 1) bs)
+pub one_more_unit : (n first i : ℕ) (rows : List Row) (bs : List Birth) (d : Birth) → i < length bs
+    → set (with_births_from n first rows (take i bs)) ((get_or bs i d).parent * n + (get_or bs i d).letter) (unit (first + i)) ≡ with_births_from n first rows (take (i + 1) bs)
 one_more_unit n first i rows bs d lt =
-    ap (λ m. set (with_births_from n first rows (take i bs)) ((get_or bs i d).parent * n + (get_or bs i d).letter) (Some (unit (first + m)))) (let e : i ≡ length (take i bs) = omega (arith, length-take i bs, lt) in e)
+    ap (λ m. set (with_births_from n first rows (take i bs)) ((get_or bs i d).parent * n + (get_or bs i d).letter) (unit (first + m))) (let e : i ≡ length (take i bs) = omega (arith, length-take i bs, lt) in e)
     ∙ sym (ap (with_births_from n first rows) (take_more bs i d lt) ∙ with_births_push n first rows (take i bs) (get_or bs i d))
 
-pub units_as : (n letters first ids : ℕ) (now rows units : List (Option Row)) (lent bs : List Birth) → letters ≡ n → first ≡ ids → now ≡ rows → lent ≡ bs → units ≡ with_births_from letters first now lent → units ≡ with_births_from n ids rows bs
+pub units_as : (n letters first ids : ℕ) (now rows units : List Row) (lent bs : List Birth) → letters ≡ n → first ≡ ids → now ≡ rows → lent ≡ bs → units ≡ with_births_from letters first now lent → units ≡ with_births_from n ids rows bs
 units_as n letters first ids now rows units lent bs letters_are first_is now_is lent_is is =
     is ∙ ap₂ (λ a b. with_births_from a b now lent) letters_are first_is ∙ ap₂ (λ a b. with_births_from n ids a b) now_is lent_is
 
-pub born_agrees : {X : Type 0} (names : List X) (first : ℕ) (rows : List (Option Row)) (lists : List (List (Option Row))) (bs : List Birth) → HasWideRows names first lists bs → Agree (length names) rows lists
+pub born_agrees : {X : Type 0} (names : List X) (first : ℕ) (rows : List Row) (lists : List (List (Option Row))) (bs : List Birth) → HasWideRows names first lists bs → Agree (length names) rows lists
     → All (λ (b : Birth). b.parent * length names + b.letter < length rows) bs → Agree (length names) (with_births_from (length names) first rows bs) (rows_with names first lists bs)
 unfolding with_births_from
 born_agrees names first rows lists [] has agree places = agree
@@ -144,11 +144,11 @@ born_agrees names first rows lists (b ∷ bs) has agree places =
     let id : b.parent < length lists = omega (arith, birth.0, has.count) in
     let place : b.parent * length names + b.letter < length rows = All-head (λ (b : Birth). b.parent * length names + b.letter < length rows) b bs places in
     let later = All-tail (λ (b : Birth). b.parent * length names + b.letter < length rows) b bs places in
-    let new : List (Option Row) = set rows (b.parent * length names + b.letter) (Some (unit first)) in
+    let new : List Row = set rows (b.parent * length names + b.letter) (unit first) in
     born_agrees names (first + 1) new (after_birth names first lists b) bs (wide_after names first lists b bs has)
     (push_agrees names (length names) new (set lists b.parent (set (get_or lists b.parent []) b.letter (Some (unit first))))
-    (set_agrees (length names) rows lists b.parent b.letter (Some (unit first)) agree id birth.1 (has.wide b.parent [] id) place))
-    (λ k d lt. omega (arith, later k d lt, length-set rows (b.parent * length names + b.letter) (Some (unit first))))
+    (set_agrees (length names) rows lists b.parent b.letter (unit first) agree id birth.1 (has.wide b.parent [] id) place))
+    (λ k d lt. omega (arith, later k d lt, length-set rows (b.parent * length names + b.letter) (unit first)))
 
 -- what entries have after births
 

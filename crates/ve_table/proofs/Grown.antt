@@ -1,10 +1,12 @@
 -- The fields of a table that grows by a level.
-use Rattle.std.proofs.Common.{◌≡◌, ℕ, ◌+◌, ◌*◌, ◌<◌, ◌≤◌, ◌^◌, ◌⊎◌, inl, inr, Some, None, List, ◌++◌, length, map, max, get_or, refl, sym, ap, ap₂, subst, ◌∙◌, arith}
+use Rattle.std.proofs.Common.{◌≡◌, ℕ, ◌+◌, ◌*◌, ◌<◌, ◌≤◌, ◌^◌, ◌-◌, ◌⊎◌, inl, inr, Some, None, List, [], ◌++◌, length, map, max, get_or, refl, sym, ap, ap₂, subst, ◌∙◌, arith}
 use Rattle.std.specs.Prelude.{Option, All, slice_get, sum_by}
 use Rattle.std.proofs.Math.Nat.{mul-le-mul_right}
+use Rattle.std.proofs.lemmas.Bool.{cases_lt}
 use Rattle.std.proofs.lemmas.Option.{slice_get_within, slice_get-get_or, slice_get-map, get_or_from_slice_get}
 use Rattle.std.proofs.lemmas.List.{length-map, length-append, get_or_append_left, get_or_default, get_or-map}
 use Rattle.std.proofs.lemmas.List.Elements.{All-append, All-map}
+use Rattle.ve_pres.specs.Drafts.{Draft}
 use Rattle.ve_theory.specs.Words.{Word, generator, times, word_length, word_weight}
 use Rattle.ve_theory.specs.Presentations.{Presentation, reach, before, letter_count}
 use Rattle.ve_theory.specs.Laws.{LevelsGrow, HasBounds}
@@ -21,18 +23,20 @@ use Rattle.ve_table.specs.Tables.{ActionTable, presented, word_at, live_words}
 use Rattle.ve_table.specs.Sound.{IsSound}
 use Rattle.ve_table.specs.Changes.{Grows, next_count}
 use Rattle.ve_table.specs.Reaches.{AreReaches}
-use Rattle.ve_table.specs.Rows.{listed, with_births_from}
+use Rattle.ve_table.specs.Rows.{listed, AreBounds, with_births_from}
+use Rattle.ve_table.specs.Steps.{HasRisingReaches}
 use Rattle.ve_table.specs.Kept.{table_of, IsEntryOf, IsKept}
 use Rattle.ve_table.specs.Births.{IsWeightedBook, AreBirths}
 use Rattle.ve_table.specs.Growth.{CanDefine, entry_of_birth}
-use Rattle.ve_table.proofs.Entries.{tabled, one_entry_each, rows_agree}
-use Rattle.ve_table.proofs.Listed.{Agree, place_below, listed_is}
+use Rattle.ve_table.proofs.Entries.{tabled, one_entry_each, rows_agree, rows_below, below_due, zero_past}
+use Rattle.ve_table.proofs.Listed.{Agree, AreBelow, place_below, listed_is}
+use Rattle.ve_table.proofs.Stepping.{rising_entries}
 use Rattle.ve_table.proofs.Opening.{all_live}
 use Rattle.ve_table.proofs.Spelling.{words_are}
 use Rattle.ve_table.proofs.Dropping.{some_back}
 use Rattle.ve_table.proofs.Comparing.{length_times}
 use Rattle.ve_table.proofs.Birthing.{positive_letter, weight_times}
-use Rattle.ve_table.proofs.Growing.{rows_with, HasWideRows, all_wide, length_rows, count_with_births, born_agrees, origin_of, after_births, born_forwards, born_origins, count_born, slice_join, origin_longer, birth_origin}
+use Rattle.ve_table.proofs.Growing.{rows_with, HasWideRows, count_with_births, born_agrees, origin_of, after_births, born_forwards, born_origins, count_born, slice_join, origin_longer, birth_origin}
 use Rattle.ve_table.proofs.NextLevel.{born_word, IsNext, AreNext, with_births, births_differ, word_new, count_new, not_before_itself, sound_grown, grows}
 use Rattle.ve_table.proofs.Counting.{births_counted}
 
@@ -67,23 +71,33 @@ next_births t kept level bs level_is are = record {
 
 -- further places change nothing that is seen
 
-pub same_view : (t : Inside) → IsKept t → (rows : List (Option Row)) → length rows ≤ length t.entries.items * letter_count t.presentation.presentation → ((k : ℕ) → get_or rows k None ≡ get_or t.rows.items k None)
-    → tabled t.presentation t.level t.images.items rows t.entries.items ≡ table_of t
-same_view t kept rows few same =
+pub same_view : (t : Inside) → IsKept t → (rows : List Row) → ((k : ℕ) → get_or rows k [] ≡ get_or t.rows.items k [])
+    → tabled t.presentation t.level t.images.items t.bounds.items rows t.entries.items ≡ table_of t
+same_view t kept rows same =
     ap (λ (r : List (List (Option Row))). record (table_of t) { rows = r })
-    (listed_is (letter_count t.presentation.presentation) (length t.entries.items) rows (table_of t).rows (kept.sound.one_row_list_each ∙ sym (one_entry_each t kept)) kept.sound.one_place_each
-    (λ b x letter. same (b * letter_count t.presentation.presentation + x) ∙ rows_agree t kept b x letter))
+    (listed_is (letter_count t.presentation.presentation) (length t.entries.items) t.bounds.items rows (table_of t).rows (kept.sound.one_row_list_each ∙ sym (one_entry_each t kept)) kept.sound.one_place_each
+    (λ b x letter. same (b * letter_count t.presentation.presentation + x) ∙ rows_agree t kept b x letter) (rows_below t))
 
-pub kept_with_room : (t u : Inside) → IsKept t → length u.rows.items ≤ length t.entries.items * letter_count t.presentation.presentation → u.entries.items ≡ t.entries.items
-    → u.presentation ≡ t.presentation → table_of u ≡ table_of t → u.live ≡ t.live → AreReaches t.presentation.presentation u.reaches → IsKept u
-kept_with_room t u kept few entries presentation same live reaches = record {
+pub kept_with_room : (t u : Inside) → IsKept t → length u.rows.items ≤ length t.entries.items * letter_count t.presentation.presentation → length t.rows.items ≤ length u.rows.items → ((k : ℕ) → get_or u.rows.items k [] ≡ get_or t.rows.items k [])
+    → u.bounds.items ≡ t.bounds.items → u.entries.items ≡ t.entries.items → u.presentation ≡ t.presentation → table_of u ≡ table_of t → u.live ≡ t.live → AreReaches t.presentation.presentation u.reaches → IsKept u
+kept_with_room t u kept few more same_rows bounds entries presentation same live reaches = record {
   sound = subst IsSound (sym same) kept.sound;
   entries = λ b e found. subst (λ U. IsEntryOf U b e) (sym same) (kept.entries b e (subst (λ l. slice_get l b ≡ Some e) entries found));
   count = omega (arith, kept.count, ap length entries);
   few_places = subst (λ l. length u.rows.items ≤ length l * letter_count u.presentation.presentation) (sym entries) (subst (λ d. length u.rows.items ≤ length t.entries.items * letter_count d.presentation) (sym presentation) few);
+  places = subst (λ (bs : List ℕ). (b x : ℕ) → x < letter_count u.presentation.presentation → b < get_or bs x 0 → b * letter_count u.presentation.presentation + x < length u.rows.items) (sym bounds)
+      (subst (λ n. (b x : ℕ) → x < n → b < get_or t.bounds.items x 0 → b * n + x < length u.rows.items) (sym letters) (λ b x letter lt. let inside = kept.places b x letter lt in omega (arith, inside, more)));
+  rest = subst (λ (bs : List ℕ). (b x : ℕ) → x < letter_count u.presentation.presentation → get_or bs x 0 ≤ b → get_or u.rows.items (b * letter_count u.presentation.presentation + x) [] ≡ []) (sym bounds)
+      (subst (λ n. (b x : ℕ) → x < n → get_or t.bounds.items x 0 ≤ b → get_or u.rows.items (b * n + x) [] ≡ []) (sym letters)
+      (λ b x letter past. same_rows (b * letter_count t.presentation.presentation + x) ∙ kept.rest b x letter past));
+  one_bound_each = ap length bounds ∙ kept.one_bound_each ∙ sym letters;
+  bounds = subst (λ (bs : List ℕ). All (λ bound. bound ≤ length u.entries.items) bs) (sym bounds) (subst (λ l. All (λ bound. bound ≤ length l) t.bounds.items) (sym entries) kept.bounds);
   live_count = live ∙ kept.live_count ∙ ap (λ U. length (live_words U)) (sym same);
   own_reaches = subst (λ d. AreReaches d.presentation u.reaches) (sym presentation) reaches;
 }
+  where
+    letters : letter_count u.presentation.presentation ≡ letter_count t.presentation.presentation
+    letters = ap (λ (d : Draft). letter_count d.presentation) presentation
 
 -- what defining asks for
 
@@ -132,14 +146,14 @@ pub record IsStep (t : Inside) (bs : List Birth) : Type 0 where
   pub births : AreNext (table_of t) bs
 
 -- the list of rows has a place for each id and letter
-pub record HasPlaces (t : Inside) (rows : List (Option Row)) : Type 0 where
-  pub same : (k : ℕ) → get_or rows k None ≡ get_or t.rows.items k None
+pub record HasPlaces (t : Inside) (rows : List Row) : Type 0 where
+  pub same : (k : ℕ) → get_or rows k [] ≡ get_or t.rows.items k []
   pub many : length t.entries.items * letter_count t.presentation.presentation ≤ length rows
   pub few : length rows ≤ length t.entries.items * letter_count t.presentation.presentation
 
 -- places that were taken
-module _ (t : Inside) (kept : IsKept t) (ids letters : ℕ) (ids_are : ids ≡ length t.entries.items) (letters_are : letters ≡ length t.presentation.presentation.weights) (rows : List (Option Row))
-    (within : length rows ≤ max (length t.rows.items) (ids * letters)) (same : (k : ℕ) → get_or rows k None ≡ get_or t.rows.items k None) where
+module _ (t : Inside) (kept : IsKept t) (ids letters : ℕ) (ids_are : ids ≡ length t.entries.items) (letters_are : letters ≡ length t.presentation.presentation.weights) (rows : List Row)
+    (within : length rows ≤ max (length t.rows.items) (ids * letters)) (same : (k : ℕ) → get_or rows k [] ≡ get_or t.rows.items k []) where
   count : ids * letters ≡ length t.entries.items * letter_count t.presentation.presentation
   count = ap₂ (λ a b. a * b) ids_are (letters_are ∙ kept.sound.valid.presentation.one_weight_each)
 
@@ -172,7 +186,7 @@ module _ (t : Inside) (bs : List Birth) (step : IsStep t bs) where
     births = λ k d lt. let next = step.births.only k d lt in (next.parent, next.letter);
   }
 
-  pub places_fit : (rows : List (Option Row)) → HasPlaces t rows → All (λ (b : Birth). b.parent * n + b.letter < length rows) bs
+  pub places_fit : (rows : List Row) → HasPlaces t rows → All (λ (b : Birth). b.parent * n + b.letter < length rows) bs
   places_fit rows has k d lt =
       let next = step.births.only k d lt in
       omega (arith, place_below n (get_or bs k d).parent (length es) (get_or bs k d).letter (omega (arith, next.parent, words_counted)) next.letter, has.many)
@@ -215,17 +229,6 @@ module _ (t : Inside) (bs : List Birth) (step : IsStep t bs) where
       words_are (T.words ++ map (born_word T) bs) (map (λ (e : Entry). e.origin) born)
       (length-map born (λ (e : Entry). e.origin) ∙ count_born (t.level + 1) bs es ∙ ap (λ n. n + length bs) (sym words_counted) ∙ sym (count_new T bs)) grown_origin
 
-  pub step_view : (rows units : List (Option Row)) (gs : List Entry) → HasPlaces t rows → units ≡ with_births_from n (length es) rows bs → gs ≡ born → tabled t.presentation (t.level + 1) t.images.items units gs ≡ with_births T bs
-  step_view rows units gs has units_are gs_are =
-      let names = t.presentation.presentation.names in
-      let wide = subst (λ m. HasWideRows names m T.rows bs) words_counted wide_rows in
-      let agree : Agree n rows T.rows = λ b x letter. has.same (b * n + x) ∙ rows_agree t step.kept b x letter in
-      let same : listed n (length born) (with_births_from n (length es) rows bs) ≡ rows_with names (length es) T.rows bs =
-      listed_is n (length born) (with_births_from n (length es) rows bs) (rows_with names (length es) T.rows bs)
-      (length_rows names (length es) T.rows bs ∙ ap (λ m. m + length bs) wide.count ∙ sym (count_born (t.level + 1) bs es)) (all_wide names (length es) T.rows bs wide)
-      (born_agrees names (length es) rows T.rows bs wide agree (places_fit rows has)) in
-      rw (units_are, gs_are, grown_words, born_forwards (t.level + 1) bs es, same, words_counted) refl
-
   -- the entries after all births
   entry_grown : (c : ℕ) (f : Entry) → slice_get born c ≡ Some f → IsEntryOf (with_births T bs) c f
   entry_grown c f found = at (slice_join es (map (entry_of_birth (t.level + 1) es) bs) c f found)
@@ -267,20 +270,76 @@ module _ (t : Inside) (bs : List Birth) (step : IsStep t bs) where
   pub step_grows : Grows T (with_births T bs)
   step_grows = grows T bs step.kept.sound wide_rows step.live step.births
 
-  pub step_kept : (u : Inside) (rows : List (Option Row)) → HasPlaces t rows → LevelsGrow → HasBounds t.presentation.presentation → next_count T < 2 ^ 32 → u.rows.items ≡ with_births_from n (length es) rows bs → u.entries.items ≡ born
-      → table_of u ≡ with_births T bs → u.presentation ≡ t.presentation → u.live ≡ t.live + length bs → u.reaches ≡ t.reaches → IsKept u
-  step_kept u rows has grow bounds few units_are entries_are same presentation live reaches = record {
-    sound = subst IsSound (sym same) (step_sound grow bounds);
-    entries = λ b e found. subst (λ U. IsEntryOf U b e) (sym same) (entry_grown b e (subst (λ l. slice_get l b ≡ Some e) entries_are found));
-    count = omega (arith, ap length entries_are, count_born (t.level + 1) bs es, ids_fit, few);
-    few_places =
-        let count : length u.rows.items ≡ length rows = ap length units_are ∙ count_with_births n (length es) rows bs in
-        let more : length es * n ≤ length u.entries.items * n = mul-le-mul_right n (omega (arith, ap length entries_are, count_born (t.level + 1) bs es)) in
-        let few : length u.rows.items ≤ length u.entries.items * n = omega (arith, count, has.few, more) in
-        subst (λ d. length u.rows.items ≤ length u.entries.items * letter_count d.presentation) (sym presentation) few;
-    live_count = live ∙ live_grown T bs t.live step.live step.kept.sound.one_forward_each step.kept.live_count ∙ ap (λ U. length (live_words U)) (sym same);
-    own_reaches = subst (λ d. AreReaches d.presentation u.reaches) (sym presentation) (subst (λ r. AreReaches t.presentation.presentation r) (sym reaches) step.kept.own_reaches);
-  }
+  count_after : length born ≡ length (with_births T bs).words
+  count_after = count_born (t.level + 1) bs es ∙ ap (λ n. n + length bs) (sym words_counted) ∙ sym (count_new T bs)
+
+  -- ids rise by reach still
+  pub step_rises : LevelsGrow → HasBounds t.presentation.presentation → HasRisingReaches born
+  step_rises grow bounds = rising_entries (with_births T bs) born (step_sound grow bounds) count_after entry_grown
+
+  module _ (grow : LevelsGrow) (bounds : HasBounds t.presentation.presentation) (news : List ℕ) (are : AreBounds t.presentation.presentation.weights (t.level + 1) born news) (rows : List Row) (has : HasPlaces t rows) where
+    units_agree : Agree n (with_births_from n (length es) rows bs) (with_births T bs).rows
+    units_agree =
+        let wide = subst (λ m. HasWideRows t.presentation.presentation.names m T.rows bs) words_counted wide_rows in
+        let agree : Agree n rows T.rows = λ b x letter. has.same (b * n + x) ∙ rows_agree t step.kept b x letter in
+        subst (λ m. Agree n (with_births_from n (length es) rows bs) (rows_with t.presentation.presentation.names m T.rows bs)) (sym words_counted)
+        (born_agrees t.presentation.presentation.names (length es) rows T.rows bs wide agree (places_fit rows has))
+
+    units_below : AreBelow n (length born) news (with_births T bs).rows
+    units_below = below_due (with_births T bs) born news (step_sound grow bounds) count_after entry_grown are
+
+    pub step_view : (units : List Row) (gs : List Entry) → units ≡ with_births_from n (length es) rows bs → gs ≡ born → tabled t.presentation (t.level + 1) t.images.items news units gs ≡ with_births T bs
+    step_view units gs units_are gs_are =
+        let sound = step_sound grow bounds in
+        let same : listed n (length born) news (with_births_from n (length es) rows bs) ≡ (with_births T bs).rows =
+        listed_is n (length born) news (with_births_from n (length es) rows bs) (with_births T bs).rows (sound.one_row_list_each ∙ sym count_after) sound.one_place_each units_agree units_below in
+        rw (units_are, gs_are, grown_words, born_forwards (t.level + 1) bs es, same) refl
+
+    pub step_kept : (u : Inside) → next_count T < 2 ^ 32 → u.rows.items ≡ with_births_from n (length es) rows bs → u.bounds.items ≡ news → u.entries.items ≡ born → table_of u ≡ with_births T bs → u.presentation ≡ t.presentation
+        → u.live ≡ t.live + length bs → u.reaches ≡ t.reaches → IsKept u
+    step_kept u few units_are news_are entries_are same presentation live reaches = record {
+      sound = subst IsSound (sym same) (step_sound grow bounds);
+      entries = λ b e found. subst (λ U. IsEntryOf U b e) (sym same) (entry_grown b e (subst (λ l. slice_get l b ≡ Some e) entries_are found));
+      count = omega (arith, ap length entries_are, count_born (t.level + 1) bs es, ids_fit, few);
+      few_places =
+          let more : length es * n ≤ length u.entries.items * n = mul-le-mul_right n (omega (arith, ap length entries_are, count_born (t.level + 1) bs es)) in
+          let few : length u.rows.items ≤ length u.entries.items * n = omega (arith, count, has.few, more) in
+          subst (λ m. length u.rows.items ≤ length u.entries.items * m) (sym letters) few;
+      places = subst (λ (ks : List ℕ). (b x : ℕ) → x < letter_count u.presentation.presentation → b < get_or ks x 0 → b * letter_count u.presentation.presentation + x < length u.rows.items) (sym news_are)
+          (subst (λ m. (b x : ℕ) → x < m → b < get_or news x 0 → b * m + x < length u.rows.items) (sym letters)
+          (λ b x letter lt. omega (arith, place_below n b (length es) x (old_id b x letter lt) letter, has.many, count)));
+      rest = subst (λ (ks : List ℕ). (b x : ℕ) → x < letter_count u.presentation.presentation → get_or ks x 0 ≤ b → get_or u.rows.items (b * letter_count u.presentation.presentation + x) [] ≡ []) (sym news_are)
+          (subst (λ m. (b x : ℕ) → x < m → get_or news x 0 ≤ b → get_or u.rows.items (b * m + x) [] ≡ []) (sym letters)
+          (λ b x letter past. ap (λ l. get_or l (b * n + x) []) units_are
+          ∙ zero_past n (length born) news (with_births_from n (length es) rows bs) (with_births T bs).rows ((step_sound grow bounds).one_row_list_each ∙ sym count_after) units_agree units_below b x letter past));
+      one_bound_each = ap length news_are ∙ are.count ∙ step.kept.sound.valid.presentation.one_weight_each ∙ sym letters;
+      bounds = subst (λ (ks : List ℕ). All (λ bound. bound ≤ length u.entries.items) ks) (sym news_are) (subst (λ l. All (λ bound. bound ≤ length l) news) (sym entries_are) are.within);
+      live_count = live ∙ live_grown T bs t.live step.live step.kept.sound.one_forward_each step.kept.live_count ∙ ap (λ U. length (live_words U)) (sym same);
+      own_reaches = subst (λ d. AreReaches d.presentation u.reaches) (sym presentation) (subst (λ r. AreReaches t.presentation.presentation r) (sym reaches) step.kept.own_reaches);
+    }
+      where
+        letters : letter_count u.presentation.presentation ≡ n
+        letters = ap (λ (d : Draft). letter_count d.presentation) presentation
+
+        count : length u.rows.items ≡ length rows
+        count = ap length units_are ∙ count_with_births n (length es) rows bs
+
+        -- no row of a new id is due
+        old_id : (b x : ℕ) → x < n → b < get_or news x 0 → b < length es
+        old_id b x letter lt = elim (cases_lt b (length es)) [
+          | inl old ↦ old
+          | inr new ↦
+              let within = are.within x 0 (omega (arith, letter, are.count, step.kept.sound.valid.presentation.one_weight_each)) in
+              let id : b < length born = omega (arith, lt, within) in
+              let due = ((step_sound grow bounds).due b x).0 ((units_below b x id letter).1 lt) in
+              let k : ℕ = b - length es in
+              let inside : k < length bs = omega (arith, id, new, count_born (t.level + 1) bs es) in
+              let d : Birth = record { parent = 0; letter = 0 } in
+              let place : b ≡ length T.words + k = omega (arith, new, words_counted) in
+              let word : word_at (with_births T bs) b ≡ born_word T (get_or bs k d) = ap (λ m. word_at (with_births T bs) m) place ∙ word_new T bs k (generator 0) d inside in
+              let reach_is : reach (presented T) (word_at (with_births T bs) b) ≡ t.level + 1 = ap (reach (presented T)) word ∙ (step.births.only k d inside).reaches in
+              absurd (omega (arith, due.2, reach_is, bounds.positive x))
+        ]
 
 -- the step from what the calls say
 pub step_is : (t : Inside) (weights : List ℕ) (entries : List Entry) (bs : List Birth) → IsKept t → All (λ f. f ≡ None) (table_of t).forwards → weights ≡ t.presentation.presentation.weights → entries ≡ t.entries.items

@@ -36,9 +36,9 @@ one_less (None ∷ forwards) (x ∷ xs) (suc b) v same live = ap suc (one_less f
 one_less (Some w ∷ forwards) (x ∷ xs) (suc b) v same live = one_less forwards xs b v (omega (arith, same)) live
 
 -- the table with another forward at an id
-pub killed : (draft : Draft) (level : ℕ) (images : List Row) (rows : List (Option Row)) (items : List Entry) (b : ℕ) (e d : Entry) (v : Row) → e ≡ get_or items b d
-    → tabled draft level images rows (set items b (record e { forward = Some v })) ≡ with_forward (tabled draft level images rows items) b v
-killed draft level images rows items b e d v e_is =
+pub killed : (draft : Draft) (level : ℕ) (images : List Row) (bounds : List ℕ) (rows : List Row) (items : List Entry) (b : ℕ) (e d : Entry) (v : Row) → e ≡ get_or items b d
+    → tabled draft level images bounds rows (set items b (record e { forward = Some v })) ≡ with_forward (tabled draft level images bounds rows items) b v
+killed draft level images bounds rows items b e d v e_is =
     let new : Entry = record e { forward = Some v } in
     let same_origins : map (λ (e : Entry). e.origin) (set items b new) ≡ map (λ (e : Entry). e.origin) items =
     map-set_same (λ (e : Entry). e.origin) items b new d (ap (λ (e : Entry). e.origin) e_is) in

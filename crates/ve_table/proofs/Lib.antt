@@ -9,6 +9,7 @@ pub mod Spelling
 pub mod Comparing
 pub mod Units
 pub mod Stepping
+pub mod Bounding
 -- ---- dead ids
 pub mod Killing
 pub mod LiveIds

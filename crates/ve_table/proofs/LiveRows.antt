@@ -1,11 +1,11 @@
 -- Rows of live ids are moved together.
-use Rattle.std.proofs.Common.{◌≡◌, ℕ, ◌+◌, ◌*◌, ◌<◌, ◌≤◌, inl, inr, true, false, cond, Some, None, List, length, take, get_or, refl, sym, ap, ◌∙◌, arith}
-use Rattle.std.specs.Prelude.{Option, count_by, slice_get}
+use Rattle.std.proofs.Common.{◌≡◌, ℕ, ◌+◌, ◌*◌, ◌<◌, ◌≤◌, inl, inr, true, false, cond, Some, None, List, [], length, take, get_or, refl, sym, ap, ◌∙◌, arith}
+use Rattle.std.specs.Prelude.{count_by, slice_get}
 use Rattle.std.specs.Option.{is_none}
 use Rattle.std.proofs.Math.Nat.{mul-le-mul_right}
 use Rattle.std.proofs.lemmas.Bool.{cases_eq}
 use Rattle.std.proofs.lemmas.List.{length-take, get_or-take, take_all, take-take}
-use Rattle.std.proofs.lemmas.List.Sums.{count_by_more_yes, count_by_more_no, sum_by-take-le}
+use Rattle.std.proofs.lemmas.List.Sums.{count_by_more_yes, count_by_more_no, sum_by-take-le, count_by-le-length}
 use Rattle.std.proofs.lemmas.Option.{slice_get_within, get_or_from_slice_get}
 use Rattle.ve_theory.specs.Answers.{Row}
 use Rattle.ve_table.specs.declared.entry.Entry.{Entry}
@@ -18,12 +18,12 @@ abbrev pub live_before : List Entry → ℕ → ℕ
 live_before es b = count_by is_live_entry (take b es)
 
 -- the rows of the live ones of the first i ids, k in number, stand together, and those of the others as they were
-pub record IsSoFar (n : ℕ) (es : List Entry) (old now : List (Option Row)) (i k : ℕ) : Type 0 where
+pub record IsSoFar (n : ℕ) (es : List Entry) (old now : List Row) (i k : ℕ) : Type 0 where
   pub kept_is : k ≡ live_before es i
   pub kept_few : k ≤ i
   pub count : length now ≡ length old
-  pub done : (b x : ℕ) (e : Entry) → b < i → slice_get es b ≡ Some e → e.forward ≡ None → x < n → get_or now (live_before es b * n + x) None ≡ get_or old (b * n + x) None
-  pub rest : (j : ℕ) → i * n ≤ j → get_or now j None ≡ get_or old j None
+  pub done : (b x : ℕ) (e : Entry) → b < i → slice_get es b ≡ Some e → e.forward ≡ None → x < n → get_or now (live_before es b * n + x) [] ≡ get_or old (b * n + x) []
+  pub rest : (j : ℕ) → i * n ≤ j → get_or now j [] ≡ get_or old j []
 
 live_of : (e : Entry) → e.forward ≡ None → is_live_entry e ≡ true
 live_of e live = ap is_none live
@@ -39,7 +39,7 @@ below es b i e lt found live =
     let more = count_by_more_yes is_live_entry es b e within here in
     omega (arith, more, no_more es (b + 1) i (omega (arith, lt)))
 
-pub step_dead : (n : ℕ) (es : List Entry) (old now : List (Option Row)) (i k : ℕ) (d : Entry) → IsSoFar n es old now i k → i < length es → is_live_entry (get_or es i d) ≡ false → IsSoFar n es old now (i + 1) k
+pub step_dead : (n : ℕ) (es : List Entry) (old now : List Row) (i k : ℕ) (d : Entry) → IsSoFar n es old now i k → i < length es → is_live_entry (get_or es i d) ≡ false → IsSoFar n es old now (i + 1) k
 step_dead n es old now i k d so_far lt dead = record {
   kept_is = so_far.kept_is ∙ sym (count_by_more_no is_live_entry es i d lt dead);
   kept_few = omega (arith, so_far.kept_few);
@@ -55,7 +55,7 @@ step_dead n es old now i k d so_far lt dead = record {
     differ : false ≡ true → ⊥
     differ bad = cc
 
-pub step_live : (n : ℕ) (es : List Entry) (old now new : List (Option Row)) (i k : ℕ) (d : Entry) → IsSoFar n es old now i k → i < length es → is_live_entry (get_or es i d) ≡ true → AreMoved n i k now new
+pub step_live : (n : ℕ) (es : List Entry) (old now new : List Row) (i k : ℕ) (d : Entry) → IsSoFar n es old now i k → i < length es → is_live_entry (get_or es i d) ≡ true → AreMoved n i k now new
     → IsSoFar n es old new (i + 1) (k + 1)
 step_live n es old now new i k d so_far lt live moved = record {
   kept_is = ap (λ m. m + 1) so_far.kept_is ∙ sym (count_by_more_yes is_live_entry es i d lt live);
@@ -64,8 +64,8 @@ step_live n es old now new i k d so_far lt live moved = record {
   done = λ b x e less found is_live letter.
       elim (cases_eq b i) [
         | inl same ↦
-            ap (λ m. get_or new (m * n + x) None) (ap (live_before es) same ∙ sym so_far.kept_is) ∙ moved.moved x letter
-            ∙ so_far.rest (i * n + x) (omega arith) ∙ ap (λ m. get_or old (m * n + x) None) (sym same)
+            ap (λ m. get_or new (m * n + x) []) (ap (live_before es) same ∙ sym so_far.kept_is) ∙ moved.moved x letter
+            ∙ so_far.rest (i * n + x) (omega arith) ∙ ap (λ m. get_or old (m * n + x) []) (sym same)
         | inr other ↦
             let earlier : b < i = omega (arith, less, other) in
             let lower = below es b i e earlier found is_live in
@@ -75,16 +75,22 @@ step_live n es old now new i k d so_far lt live moved = record {
 }
 
 -- an id that is at its place
-pub stays : (n i : ℕ) (rows : List (Option Row)) → AreMoved n i i rows rows
+pub stays : (n i : ℕ) (rows : List Row) → AreMoved n i i rows rows
 stays n i rows = record { count = refl; moved = λ x letter. refl; below = λ k lt. refl; above = λ k le. refl }
 
-pub start : (n : ℕ) (es : List Entry) (rows : List (Option Row)) → IsSoFar n es rows rows 0 0
+pub start : (n : ℕ) (es : List Entry) (rows : List Row) → IsSoFar n es rows rows 0 0
 start n es rows = record { kept_is = refl; kept_few = omega arith; count = refl; done = λ b x e lt. absurd (omega (arith, lt)); rest = λ j le. refl }
 
-pub finish : (n : ℕ) (es : List Entry) (old now : List (Option Row)) (i k : ℕ) → IsSoFar n es old now i k → length es ≤ i → AreLiveRows n es old (take (k * n) now)
+pub finish : (n : ℕ) (es : List Entry) (old now : List Row) (i k : ℕ) → IsSoFar n es old now i k → length es ≤ i → AreLiveRows n es old (take (k * n) now)
 finish n es old now i k so_far past = record {
   rows = λ b x e found live letter.
       let within : b < i = omega (arith, past, slice_get_within es b e found) in
-      get_or-take (k * n) now (live_before es b * n + x) None (place_below n (live_before es b) k x (omega (arith, below es b i e within found live, so_far.kept_is)) letter) ∙ so_far.done b x e within found live letter;
+      get_or-take (k * n) now (live_before es b * n + x) [] (place_below n (live_before es b) k x (omega (arith, below es b i e within found live, so_far.kept_is)) letter) ∙ so_far.done b x e within found live letter;
+  places = λ b x e found live letter place.
+      let within : b < i = omega (arith, past, slice_get_within es b e found) in
+      let lower : live_before es b ≤ b = omega (arith, count_by-le-length is_live_entry (take b es), length-take b es) in
+      let less : live_before es b * n ≤ b * n = mul-le-mul_right n lower in
+      let first = place_below n (live_before es b) k x (omega (arith, below es b i e within found live, so_far.kept_is)) letter in
+      omega (arith, first, less, place, so_far.count, length-take (k * n) now);
   within = omega (arith, length-take (k * n) now, ap (λ m. m * n) (so_far.kept_is ∙ ap (count_by is_live_entry) (take_all i es past)));
 }

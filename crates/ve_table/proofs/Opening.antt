@@ -2,13 +2,15 @@
 use Rattle.std.proofs.Common.{◌≡◌, ℕ, zero, suc, ◌+◌, ◌*◌, ◌<◌, ◌≤◌, inl, inr, Some, None, List, [], ◌∷◌, ◌++◌, length, map, get_or, refl, sym, ap, ap₂, subst, ◌∙◌, arith}
 use Rattle.std.specs.Prelude.{Option, All, slice_get}
 use Rattle.std.specs.List.{range_with_len}
+use Rattle.std.specs.Option.{unwrap_or}
+use Rattle.std.proofs.lemmas.Bool.{cases_lt}
 use Rattle.std.proofs.lemmas.Option.{slice_get_within, get_or_from_slice_get}
 use Rattle.std.proofs.lemmas.List.{length-map, map_push, get_or_past, get_or-map, append_assoc, append-nil}
 use Rattle.std.proofs.lemmas.List.Elements.{All-head, All-tail, All-map, All-push}
 use Rattle.std.proofs.lemmas.List.FromFn.{get_or-map-range_with_len, length-map-range_with_len, map-range_with_len_more}
 use Rattle.ve_theory.specs.Combinations.{unit}
 use Rattle.ve_theory.specs.Words.{Word, generator, times, start, letters, word_length, word_weight, Weighted}
-use Rattle.ve_theory.specs.Presentations.{Presentation, reach, step, IsWord}
+use Rattle.ve_theory.specs.Presentations.{Presentation, reach, step, letter_count, IsWord}
 use Rattle.ve_theory.specs.Validity.{IsValid}
 use Rattle.ve_theory.specs.Laws.{HasBounds}
 use Rattle.ve_theory.specs.Answers.{Row}
@@ -67,18 +69,25 @@ no_row (i ∷ ids) names zero x = none_in names x
     none_in (n ∷ names) (suc x) = none_in names x
 no_row (i ∷ ids) names (suc b) x = no_row ids names b x
 
-pub opened_is : (draft : Draft) (items : List Entry) (rows : List (Option Row)) (images : List Row) → rows ≡ [] → AreRoots draft.presentation.generators items → images ≡ map unit (range_with_len 0 draft.presentation.generators)
-    → tabled draft 0 images rows items ≡ opened draft
-opened_is draft items rows images rows_are are images_are =
+zero_at : (bounds : List ℕ) (x : ℕ) → All (λ bound. bound ≡ 0) bounds → get_or bounds x 0 ≡ 0
+zero_at bounds x nothing = elim (cases_lt x (length bounds)) [ inl lt ↦ nothing x 0 lt | inr past ↦ get_or_past bounds x 0 past ]
+
+pub opened_is : (draft : Draft) (items : List Entry) (bounds : List ℕ) (rows images : List Row) → rows ≡ [] → All (λ bound. bound ≡ 0) bounds → AreRoots draft.presentation.generators items → images ≡ map unit (range_with_len 0 draft.presentation.generators)
+    → tabled draft 0 images bounds rows items ≡ opened draft
+opened_is draft items bounds rows images rows_are nothing are images_are =
     let ids : List ℕ = range_with_len 0 draft.presentation.generators in
     let names = draft.presentation.names in
     let same : length items ≡ length ids = sym (length-map items (λ (e : Entry). e.origin)) ∙ ap length are.origins ∙ length-map ids Root in
     let words : words_of (map (λ (e : Entry). e.origin) items) ≡ map generator ids = ap words_of are.origins ∙ root_words [] ids in
     let forwards : map (λ (e : Entry). e.forward) items ≡ map (λ _. None) ids = same_map (λ (e : Entry). e.forward) None items ids same (λ k d lt. (are.each k d lt).live) in
-    let lists : listed (length names) (length items) [] ≡ map (λ _. map (λ _. None) names) ids =
-    listed_is (length names) (length items) [] (map no_rows ids) (length-map ids no_rows ∙ sym same)
+    let lists : listed (length names) (length items) bounds [] ≡ map (λ _. map (λ _. None) names) ids =
+    listed_is (length names) (length items) bounds [] (map no_rows ids) (length-map ids no_rows ∙ sym same)
     (All-map (λ (row : List (Option Row)). length row ≡ length names) no_rows ids (λ k d lt. length-map names empty))
-    (λ b x letter. get_or_past [] (b * length names + x) None (omega arith) ∙ sym (no_row ids names b x)) in
+    (λ b x letter. get_or_past [] (b * length names + x) [] (omega arith) ∙ sym (ap (λ o. unwrap_or o []) (no_row ids names b x)))
+    (λ b x id letter. (
+      λ some. absurd (none_is_some (row_in (map no_rows ids) b x) (no_row ids names b x) some),
+      λ lt. absurd (omega (arith, lt, zero_at bounds x nothing)),
+    )) in
     rw (words, forwards, rows_are, lists, images_are) refl
   where
     empty : List ℕ → Option Row
@@ -182,15 +191,17 @@ root_entry draft items are b e found =
       own_length = is.own_length ∙ sym (length-generator b) ∙ ap word_length (sym word);
     }
 
-pub opened_from : (t : Inside) → t.level ≡ 0 → t.rows.items ≡ [] → AreRoots t.presentation.presentation.generators t.entries.items → t.images.items ≡ map unit (range_with_len 0 t.presentation.presentation.generators)
-    → table_of t ≡ opened t.presentation
-opened_from t level rows are images = ap (λ k. tabled t.presentation k t.images.items t.rows.items t.entries.items) level ∙ opened_is t.presentation t.entries.items t.rows.items t.images.items rows are images
+pub opened_from : (t : Inside) → t.level ≡ 0 → t.rows.items ≡ [] → All (λ bound. bound ≡ 0) t.bounds.items → AreRoots t.presentation.presentation.generators t.entries.items
+    → t.images.items ≡ map unit (range_with_len 0 t.presentation.presentation.generators) → table_of t ≡ opened t.presentation
+opened_from t level rows nothing are images =
+    ap (λ k. tabled t.presentation k t.images.items t.bounds.items t.rows.items t.entries.items) level ∙ opened_is t.presentation t.entries.items t.bounds.items t.rows.items t.images.items rows nothing are images
 
-pub kept_opened : (t : Inside) → t.level ≡ 0 → t.rows.items ≡ [] → AreRoots t.presentation.presentation.generators t.entries.items → t.images.items ≡ map unit (range_with_len 0 t.presentation.presentation.generators)
-    → t.live ≡ t.presentation.presentation.generators → AreReaches t.presentation.presentation t.reaches → IsValid t.presentation.presentation → HasBounds t.presentation.presentation → IsKept t
-kept_opened t level rows are images live reaches valid bounds =
+pub kept_opened : (t : Inside) → t.level ≡ 0 → t.rows.items ≡ [] → length t.bounds.items ≡ letter_count t.presentation.presentation → All (λ bound. bound ≡ 0) t.bounds.items → AreRoots t.presentation.presentation.generators t.entries.items
+    → t.images.items ≡ map unit (range_with_len 0 t.presentation.presentation.generators) → t.live ≡ t.presentation.presentation.generators → AreReaches t.presentation.presentation t.reaches → IsValid t.presentation.presentation
+    → HasBounds t.presentation.presentation → IsKept t
+kept_opened t level rows letters nothing are images live reaches valid bounds =
     let count : ℕ = t.presentation.presentation.generators in
-    let same : table_of t ≡ opened t.presentation = opened_from t level rows are images in
+    let same : table_of t ≡ opened t.presentation = opened_from t level rows nothing are images in
     let ids : length t.entries.items ≡ count = sym (length-map t.entries.items (λ (e : Entry). e.origin)) ∙ ap length are.origins ∙ length-map-range_with_len Root 0 count in
     let live_are : live_words (opened t.presentation) ≡ (opened t.presentation).words =
     all_live (opened t.presentation).forwards (opened t.presentation).words (nones (range_with_len 0 count)) (sound_opened t.presentation valid bounds).one_forward_each in
@@ -199,6 +210,10 @@ kept_opened t level rows are images live reaches valid bounds =
       entries = λ b e found. subst (λ T. IsEntryOf T b e) (sym same) (root_entry t.presentation t.entries.items are b e found);
       count = omega (arith, ids, valid.generators.1);
       few_places = omega (arith, ap length rows);
+      places = λ b x letter lt. absurd (omega (arith, lt, zero_at t.bounds.items x nothing));
+      rest = λ b x letter past. get_or_past t.rows.items (b * letter_count t.presentation.presentation + x) [] (omega (arith, ap length rows));
+      one_bound_each = letters;
+      bounds = λ k d lt. omega (arith, nothing k d lt);
       live_count = live ∙ sym (length-map-range_with_len generator 0 count) ∙ ap length (sym live_are) ∙ ap (λ T. length (live_words T)) (sym same);
       own_reaches = reaches;
     }

@@ -1,12 +1,13 @@
 -- The entries of live ids, numbered anew, are the table without the dead ones.
 use Rattle.std.proofs.Common.{◌≡◌, ℕ, suc, ◌+◌, ◌*◌, ◌<◌, ◌≤◌, ◌⊎◌, inl, inr, true, false, Some, None, List, [], ◌∷◌, length, map, take, get_or, refl, sym, ap, ap₂, subst, ◌∙◌, arith}
-use Rattle.std.specs.Prelude.{Option, All, IfSome, slice_get, filter, count_by}
-use Rattle.std.specs.Option.{is_none, option_map}
+use Rattle.std.specs.Prelude.{Option, All, IsSome, slice_get, filter, count_by}
+use Rattle.std.specs.Option.{is_none, is_some, option_map, unwrap_or}
+use Rattle.ve_pres.specs.Drafts.{Draft}
 use Rattle.std.proofs.lemmas.Option.{slice_get_within, slice_get-get_or, slice_get-map, get_or_from_slice_get}
 use Rattle.std.proofs.lemmas.Bool.{cases_lt}
 use Rattle.std.proofs.lemmas.List.{get_or_past, length-map, take-map, map-id, get_or_default}
 use Rattle.std.proofs.lemmas.List.FromFn.{get_or-map-range_with_len, length-map-range_with_len}
-use Rattle.std.proofs.lemmas.List.Elements.{All-head, All-tail, filter_passes}
+use Rattle.std.proofs.lemmas.List.Elements.{All-nil, All-head, All-tail, filter_passes}
 use Rattle.std.proofs.lemmas.List.Sums.{length-filter, count_by-le-length}
 use Rattle.ve_theory.specs.Combinations.{IsReduced}
 use Rattle.ve_theory.specs.Words.{Word, generator, times, word_length}
@@ -22,15 +23,17 @@ use Rattle.ve_table.specs.Tables.{ActionTable, presented, word_at, row_at, IsLiv
 use Rattle.ve_table.specs.Reaches.{AreReaches}
 use Rattle.ve_table.specs.Sound.{IsSound, HasLiveIds, NamesLiveIds}
 use Rattle.ve_table.specs.Changes.{renumbered, without_dead}
-use Rattle.ve_table.specs.Rows.{AreLiveRows}
+use Rattle.ve_table.specs.Rows.{AreBounds, AreLiveRows}
+use Rattle.ve_table.specs.Steps.{HasRisingReaches}
+use Rattle.ve_table.proofs.Stepping.{rising_entries}
 use Rattle.ve_table.specs.Kept.{table_of, IsEntryOf, IsKept}
 use Rattle.ve_table.specs.Numbers.{is_live_entry, new_numbers, CanNumber, HasParentBelow, numbered_origin, CanNumberEntry, IsNumbered, AreNumbered}
-use Rattle.ve_table.proofs.Entries.{tabled, one_entry_each, row_here}
-use Rattle.ve_table.proofs.Listed.{Agree, at_place, place_past, no_id, listed_is}
+use Rattle.ve_table.proofs.Entries.{tabled, one_entry_each, rows_agree, row_bounded, below_due, zero_past}
+use Rattle.ve_table.proofs.Listed.{Agree, AreBelow, vector_in, at_place, place_past, no_id, listed_is}
 use Rattle.ve_table.proofs.Opening.{same_map, all_live, nones}
 use Rattle.ve_table.proofs.Spelling.{words_are}
 use Rattle.ve_table.proofs.LiveIds.{alive, of_live-at, live_filter, alive_filter, alive_entries}
-use Rattle.ve_table.proofs.Dropping.{get_or-map_default, row_kept, number_is, word_kept, live_count, old_id, number_grows, id_within, reduced_kept, sound_dropped, some_back}
+use Rattle.ve_table.proofs.Dropping.{get_or-map_default, is_some-map, row_kept, number_is, word_kept, live_count, old_id, number_grows, id_within, reduced_kept, sound_dropped, some_back}
 
 -- lists
 
@@ -67,6 +70,10 @@ can_number t kept p v live reduced = record {
   ids = λ k d lt. omega (arith, live_within t kept v live k d lt, length-map-range_with_len (λ b. count_by is_live_entry (take b t.entries.items)) 0 (length t.entries.items));
   order = (p, subst (IsReduced ◌<◌ p) (sym (vector_numbered t kept v live)) (reduced_kept (table_of t) p v kept.sound.one_forward_each live reduced));
 }
+
+can_number_zero : (numbers : List ℕ) → CanNumber numbers []
+unfolding IsReduced
+can_number_zero numbers = record { ids = All-nil (λ t. t.0 < length numbers); order = (0, tt) }
 
 parent_below : (words : List Word) (b n : ℕ) (o : Origin) (w : Word) → IsOriginOf words b o w → b ≤ n → HasParentBelow n o
 unfolding IsOriginOf
@@ -121,6 +128,9 @@ AreDropped t new = AreNumbered (new_numbers t.entries.items) (filter is_live_ent
 length_dropped : (t : Inside) → IsKept t → (new : List Entry) → AreDropped t new → length new ≡ length (live_words (table_of t))
 length_dropped t kept new are = are.count ∙ alive_filter t.entries.items ∙ sym (live_count (table_of t) kept.sound.one_forward_each)
 
+pub entries_within : (t : Inside) (new : List Entry) → AreDropped t new → length new ≤ length t.entries.items
+entries_within t new are = omega (arith, are.count, length-filter is_live_entry t.entries.items, count_by-le-length is_live_entry t.entries.items)
+
 dropped_words : (t : Inside) → IsKept t → NamesLiveIds (table_of t) → (new : List Entry) → AreDropped t new → words_of (map (λ (e : Entry). e.origin) new) ≡ live_words (table_of t)
 dropped_words t kept live new are =
     words_are (live_words (table_of t)) (map (λ (e : Entry). e.origin) new) (length-map new (λ (e : Entry). e.origin) ∙ length_dropped t kept new are) at
@@ -168,36 +178,35 @@ live_entry t kept b is_live =
     (found.0, found.1, found.2)
 
 -- what stands at a live id's new number
-kept_row : (t : Inside) → IsKept t → (new : List (Option Row)) → AreLiveRows (letter_count t.presentation.presentation) t.entries.items t.rows.items new → (b x : ℕ) → IsLive (table_of t) b → x < letter_count t.presentation.presentation
-    → get_or new (live_below (table_of t) b * letter_count t.presentation.presentation + x) None ≡ row_at (table_of t) b x
+kept_row : (t : Inside) → IsKept t → (new : List Row) → AreLiveRows (letter_count t.presentation.presentation) t.entries.items t.rows.items new → (b x : ℕ) → IsLive (table_of t) b → x < letter_count t.presentation.presentation
+    → get_or new (live_below (table_of t) b * letter_count t.presentation.presentation + x) [] ≡ vector_in (table_of t).rows b x
 kept_row t kept new are b x is_live letter =
     let e = live_entry t kept b is_live in
-    ap (λ k. get_or new (k * letter_count t.presentation.presentation + x) None) (sym (live_entries_below t kept b)) ∙ are.rows b x e.0 e.1 e.2 letter ∙ row_here t kept b x letter
+    ap (λ k. get_or new (k * letter_count t.presentation.presentation + x) []) (sym (live_entries_below t kept b)) ∙ are.rows b x e.0 e.1 e.2 letter ∙ rows_agree t kept b x letter
 
-pub can_number_rows : (t : Inside) → IsKept t → NamesLiveIds (table_of t) → (new : List (Option Row)) → AreLiveRows (letter_count t.presentation.presentation) t.entries.items t.rows.items new
-    → All (λ row. IfSome row (CanNumber (new_numbers t.entries.items))) new
+pub can_number_rows : (t : Inside) → IsKept t → NamesLiveIds (table_of t) → (new : List Row) → AreLiveRows (letter_count t.presentation.presentation) t.entries.items t.rows.items new → All (CanNumber (new_numbers t.entries.items)) new
 can_number_rows t kept live new are j d lt =
     let T : ActionTable = table_of t in
     let n : ℕ = letter_count t.presentation.presentation in
     let place = at_place n (length (live_words T)) j (omega (arith, lt, are.within, ap (λ k. k * n) (all_live_entries t kept))) in
     let old = old_id T place.0 kept.sound.one_forward_each place.2 in
-    let here : get_or new j d ≡ row_at T old.0 place.1 =
-    get_or_default new j d None lt ∙ ap (λ k. get_or new k None) (place.4 ∙ ap (λ k. k * n + place.1) (sym old.2)) ∙ kept_row t kept new are old.0 place.1 old.1 place.3 in
-    subst (λ o. IfSome o (CanNumber (new_numbers t.entries.items))) (sym here) (each old.0 place.1 old.1 (row_at T old.0 place.1) refl)
+    let here : get_or new j d ≡ vector_in T.rows old.0 place.1 =
+    get_or_default new j d [] lt ∙ ap (λ k. get_or new k []) (place.4 ∙ ap (λ k. k * n + place.1) (sym old.2)) ∙ kept_row t kept new are old.0 place.1 old.1 place.3 in
+    subst (CanNumber (new_numbers t.entries.items)) (sym here) (each old.0 place.1 old.1 (row_at T old.0 place.1) refl)
   where
-    each : (b x : ℕ) → IsLive (table_of t) b → (o : Option Row) → row_at (table_of t) b x ≡ o → IfSome o (CanNumber (new_numbers t.entries.items))
-    each b x is_live None is = tt
+    each : (b x : ℕ) → IsLive (table_of t) b → (o : Option Row) → row_at (table_of t) b x ≡ o → CanNumber (new_numbers t.entries.items) (unwrap_or o [])
+    each b x is_live None is = can_number_zero (new_numbers t.entries.items)
     each b x is_live (Some v) is = can_number t kept (presented (table_of t)).prime v (live.rows b x v is_live is) (kept.sound.rows b x v is).stands.row.0
 
-abbrev pub renumbered_rows : List Entry → List (Option Row) → List (Option Row)
-renumbered_rows es new = map (option_map (numbered (new_numbers es))) new
+abbrev pub renumbered_rows : List Entry → List Row → List Row
+renumbered_rows es new = map (numbered (new_numbers es)) new
 
-few_dropped : (t : Inside) → IsKept t → (new : List (Option Row)) → AreLiveRows (letter_count t.presentation.presentation) t.entries.items t.rows.items new
+few_dropped : (t : Inside) → IsKept t → (new : List Row) → AreLiveRows (letter_count t.presentation.presentation) t.entries.items t.rows.items new
     → length (renumbered_rows t.entries.items new) ≤ length (live_words (table_of t)) * letter_count t.presentation.presentation
 few_dropped t kept new are =
-    omega (arith, length-map new (option_map (numbered (new_numbers t.entries.items))), are.within, ap (λ k. k * letter_count t.presentation.presentation) (all_live_entries t kept))
+    omega (arith, length-map new (numbered (new_numbers t.entries.items)), are.within, ap (λ k. k * letter_count t.presentation.presentation) (all_live_entries t kept))
 
-dropped_agree : (t : Inside) → IsKept t → NamesLiveIds (table_of t) → (new : List (Option Row)) → AreLiveRows (letter_count t.presentation.presentation) t.entries.items t.rows.items new
+dropped_agree : (t : Inside) → IsKept t → NamesLiveIds (table_of t) → (new : List Row) → AreLiveRows (letter_count t.presentation.presentation) t.entries.items t.rows.items new
     → Agree (letter_count t.presentation.presentation) (renumbered_rows t.entries.items new) (without_dead (table_of t)).rows
 dropped_agree t kept live new are c x letter = by (cases_lt c (length (live_words T)))
   where
@@ -210,35 +219,21 @@ dropped_agree t kept live new are c x letter = by (cases_lt c (length (live_word
     same : length T.forwards ≡ length T.words
     same = kept.sound.one_forward_each
 
-    each : (b : ℕ) → IsLive T b → (o : Option Row) → row_at T b x ≡ o → option_map (numbered (new_numbers t.entries.items)) o ≡ option_map (renumbered T) o
+    each : (b : ℕ) → IsLive T b → (o : Option Row) → row_at T b x ≡ o → numbered (new_numbers t.entries.items) (unwrap_or o []) ≡ unwrap_or (option_map (renumbered T) o) []
     each b is_live None is = refl
-    each b is_live (Some v) is = ap Some (vector_numbered t kept v (live.rows b x v is_live is))
+    each b is_live (Some v) is = vector_numbered t kept v (live.rows b x v is_live is)
 
-    at_live : (b : ℕ) → IsLive T b → get_or (renumbered_rows t.entries.items new) (live_below T b * n + x) None ≡ row_at (without_dead T) (live_below T b) x
+    at_live : (b : ℕ) → IsLive T b → get_or (renumbered_rows t.entries.items new) (live_below T b * n + x) [] ≡ vector_in (without_dead T).rows (live_below T b) x
     at_live b is_live =
-        get_or-map_default (option_map (numbered (new_numbers t.entries.items))) new (live_below T b * n + x) None
-        ∙ ap (option_map (numbered (new_numbers t.entries.items))) (kept_row t kept new are b x is_live letter) ∙ each b is_live (row_at T b x) refl
-        ∙ sym (row_kept T b x same kept.sound.one_row_list_each is_live)
+        get_or-map_default (numbered (new_numbers t.entries.items)) new (live_below T b * n + x) []
+        ∙ ap (numbered (new_numbers t.entries.items)) (kept_row t kept new are b x is_live letter) ∙ each b is_live (row_at T b x) refl
+        ∙ ap (λ o. unwrap_or o []) (sym (row_kept T b x same kept.sound.one_row_list_each is_live))
 
-    by : (c < length (live_words T)) ⊎ (length (live_words T) ≤ c) → get_or (renumbered_rows t.entries.items new) (c * n + x) None ≡ row_at (without_dead T) c x
-    by (inl lt) = let old = old_id T c same lt in subst (λ k. get_or (renumbered_rows t.entries.items new) (k * n + x) None ≡ row_at (without_dead T) k x) old.2 (at_live old.0 old.1)
+    by : (c < length (live_words T)) ⊎ (length (live_words T) ≤ c) → get_or (renumbered_rows t.entries.items new) (c * n + x) [] ≡ vector_in (without_dead T).rows c x
+    by (inl lt) = let old = old_id T c same lt in subst (λ k. get_or (renumbered_rows t.entries.items new) (k * n + x) [] ≡ vector_in (without_dead T).rows k x) old.2 (at_live old.0 old.1)
     by (inr past) =
-        get_or_past (renumbered_rows t.entries.items new) (c * n + x) None (omega (arith, few_dropped t kept new are, place_past n (length (live_words T)) c x past))
-        ∙ sym (no_id (without_dead T).rows c x (omega (arith, past, (sound_dropped T kept.sound live).one_row_list_each)))
-
-pub dropped : (t : Inside) → IsKept t → NamesLiveIds (table_of t) → (entries : List Entry) (rows : List (Option Row)) → AreDropped t entries → AreLiveRows (letter_count t.presentation.presentation) t.entries.items t.rows.items rows
-    → tabled t.presentation t.level (map (numbered (new_numbers t.entries.items)) t.images.items) (renumbered_rows t.entries.items rows) entries ≡ without_dead (table_of t)
-dropped t kept live entries rows are are_rows =
-    let sound = sound_dropped (table_of t) kept.sound live in
-    let n : ℕ = letter_count t.presentation.presentation in
-    rw (
-      dropped_words t kept live entries are,
-      dropped_forwards t kept entries are,
-      listed_is n (length entries) (renumbered_rows t.entries.items rows) (without_dead (table_of t)).rows (sound.one_row_list_each ∙ sym (length_dropped t kept entries are)) sound.one_place_each
-          (dropped_agree t kept live rows are_rows),
-      map_same (numbered (new_numbers t.entries.items)) (renumbered (table_of t)) t.images.items (λ k d lt. vector_numbered t kept (get_or t.images.items k d) (live.images k d lt)),
-    )
-    refl
+        get_or_past (renumbered_rows t.entries.items new) (c * n + x) [] (omega (arith, few_dropped t kept new are, place_past n (length (live_words T)) c x past))
+        ∙ sym (ap (λ o. unwrap_or o []) (no_id (without_dead T).rows c x (omega (arith, past, (sound_dropped T kept.sound live).one_row_list_each))))
 
 pub entries_dropped : (t : Inside) → IsKept t → NamesLiveIds (table_of t) → (new : List Entry) → AreDropped t new → (k : ℕ) (f : Entry) → slice_get new k ≡ Some f → IsEntryOf (without_dead (table_of t)) k f
 entries_dropped t kept live new are k f found =
@@ -258,41 +253,94 @@ entries_dropped t kept live new are k f found =
       own_length = is.own_length ∙ own.own_length ∙ ap word_length word;
     }
 
-pub kept_dropped : (t u : Inside) → IsKept t → NamesLiveIds (table_of t) → AreDropped t u.entries.items → (rows : List (Option Row)) → AreLiveRows (letter_count t.presentation.presentation) t.entries.items t.rows.items rows
-    → u.rows.items ≡ renumbered_rows t.entries.items rows → table_of u ≡ without_dead (table_of t) → u.live ≡ t.live → u.presentation ≡ t.presentation → u.reaches ≡ t.reaches → IsKept u
-kept_dropped t u kept live are rows are_rows rows_are same live_same presentation reaches =
-    let T : ActionTable = table_of t in
-    let sound = sound_dropped T kept.sound live in
-    let n : ℕ = letter_count t.presentation.presentation in
-    let few : length u.rows.items ≤ length u.entries.items * n = omega (arith, ap length rows_are, few_dropped t kept rows are_rows, ap (λ k. k * n) (length_dropped t kept u.entries.items are)) in
-    record {
-      sound = subst IsSound (sym same) sound;
-      entries = λ b e found. subst (λ U. IsEntryOf U b e) (sym same) (entries_dropped t kept live u.entries.items are b e found);
-      count = omega (arith, kept.count, length_dropped t kept u.entries.items are, live_count T kept.sound.one_forward_each, alive_filter t.entries.items, length_filter t.entries.items);
-      few_places = subst (λ d. length u.rows.items ≤ length u.entries.items * letter_count d.presentation) (sym presentation) few;
-      live_count = live_same ∙ kept.live_count ∙ ap length (sym (all_live (map none (live_words T)) (live_words T) (nones (live_words T)) (length-map (live_words T) none))) ∙ ap (λ U. length (live_words U)) (sym same);
-      own_reaches = subst (λ d. AreReaches d.presentation u.reaches) (sym presentation) (subst (λ r. AreReaches t.presentation.presentation r) (sym reaches) kept.own_reaches);
-    }
-  where
-    none : Word → Option Row
-    none w = None
+-- reaches of the live ids rise still
+pub dropped_rises : (t : Inside) → IsKept t → NamesLiveIds (table_of t) → (new : List Entry) → AreDropped t new → HasRisingReaches new
+dropped_rises t kept live new are = rising_entries (without_dead (table_of t)) new (sound_dropped (table_of t) kept.sound live) (length_dropped t kept new are) (entries_dropped t kept live new are)
 
-    length_filter : (es : List Entry) → length (filter is_live_entry es) ≤ length es
-    length_filter es = omega (arith, length-filter is_live_entry es, count_by-le-length is_live_entry es)
+dropped_below : (t : Inside) → IsKept t → NamesLiveIds (table_of t) → (new : List Entry) → AreDropped t new → (bounds : List ℕ) → AreBounds t.presentation.presentation.weights t.level new bounds
+    → AreBelow (letter_count t.presentation.presentation) (length new) bounds (without_dead (table_of t)).rows
+dropped_below t kept live new are bounds bounds_are = below_due (without_dead (table_of t)) new bounds (sound_dropped (table_of t) kept.sound live) (length_dropped t kept new are) (entries_dropped t kept live new are) bounds_are
+
+pub dropped : (t : Inside) → IsKept t → NamesLiveIds (table_of t) → (entries : List Entry) (rows : List Row) (bounds : List ℕ) → AreDropped t entries → AreLiveRows (letter_count t.presentation.presentation) t.entries.items t.rows.items rows
+    → AreBounds t.presentation.presentation.weights t.level entries bounds
+    → tabled t.presentation t.level (map (numbered (new_numbers t.entries.items)) t.images.items) bounds (renumbered_rows t.entries.items rows) entries ≡ without_dead (table_of t)
+dropped t kept live entries rows bounds are are_rows bounds_are =
+    let sound = sound_dropped (table_of t) kept.sound live in
+    let n : ℕ = letter_count t.presentation.presentation in
+    rw (
+      dropped_words t kept live entries are,
+      dropped_forwards t kept entries are,
+      listed_is n (length entries) bounds (renumbered_rows t.entries.items rows) (without_dead (table_of t)).rows (sound.one_row_list_each ∙ sym (length_dropped t kept entries are)) sound.one_place_each
+          (dropped_agree t kept live rows are_rows) (dropped_below t kept live entries are bounds bounds_are),
+      map_same (numbered (new_numbers t.entries.items)) (renumbered (table_of t)) t.images.items (λ k d lt. vector_numbered t kept (get_or t.images.items k d) (live.images k d lt)),
+    )
+    refl
+
+-- a row that is due has a place among those of the live ids
+module _ (t : Inside) (kept : IsKept t) (live : NamesLiveIds (table_of t)) (entries : List Entry) (rows : List Row) (bounds : List ℕ) (are : AreDropped t entries)
+    (are_rows : AreLiveRows (letter_count t.presentation.presentation) t.entries.items t.rows.items rows) (bounds_are : AreBounds t.presentation.presentation.weights t.level entries bounds) where
+  abbrev n : ℕ
+  n = letter_count t.presentation.presentation
+
+  pub dropped_places : (c x : ℕ) → x < n → c < get_or bounds x 0 → c * n + x < length (renumbered_rows t.entries.items rows)
+  dropped_places c x letter lt =
+      let T : ActionTable = table_of t in
+      let same : length T.forwards ≡ length T.words = kept.sound.one_forward_each in
+      let within = bounds_are.within x 0 (omega (arith, letter, bounds_are.count, kept.sound.valid.presentation.one_weight_each)) in
+      let id : c < length entries = omega (arith, lt, within) in
+      let old = old_id T c same (omega (arith, id, length_dropped t kept entries are)) in
+      let some : IsSome (row_at (without_dead T) c x) = (dropped_below t kept live entries are bounds bounds_are c x id letter).1 lt in
+      let there : IsSome (row_at T old.0 x) =
+      sym (is_some-map (renumbered T) (row_at T old.0 x)) ∙ ap is_some (sym (row_kept T old.0 x same kept.sound.one_row_list_each old.1)) ∙ ap (λ k. is_some (row_at (without_dead T) k x)) old.2 ∙ some in
+      let place : old.0 * n + x < length t.rows.items = kept.places old.0 x letter (row_bounded t old.0 x there) in
+      let e = live_entry t kept old.0 old.1 in
+      let inside : count_by is_live_entry (take old.0 t.entries.items) * n + x < length rows = are_rows.places old.0 x e.0 e.1 e.2 letter place in
+      omega (arith, inside, length-map rows (numbered (new_numbers t.entries.items)), ap (λ k. k * n) (live_entries_below t kept old.0 ∙ old.2))
+
+  pub dropped_zero : (c x : ℕ) → x < n → get_or bounds x 0 ≤ c → get_or (renumbered_rows t.entries.items rows) (c * n + x) [] ≡ []
+  dropped_zero =
+      zero_past n (length entries) bounds (renumbered_rows t.entries.items rows) (without_dead (table_of t)).rows ((sound_dropped (table_of t) kept.sound live).one_row_list_each ∙ sym (length_dropped t kept entries are))
+      (dropped_agree t kept live rows are_rows) (dropped_below t kept live entries are bounds bounds_are)
+
+  pub kept_dropped : (u : Inside) → u.entries.items ≡ entries → u.rows.items ≡ renumbered_rows t.entries.items rows → u.bounds.items ≡ bounds → table_of u ≡ without_dead (table_of t) → u.live ≡ t.live → u.presentation ≡ t.presentation → u.reaches ≡ t.reaches → IsKept u
+  kept_dropped u entries_are rows_are ks_are same live_same presentation reaches = record {
+    sound = subst IsSound (sym same) (sound_dropped (table_of t) kept.sound live);
+    entries = λ b e found. subst (λ U. IsEntryOf U b e) (sym same) (entries_dropped t kept live entries are b e (subst (λ l. slice_get l b ≡ Some e) entries_are found));
+    count = omega (arith, ap length entries_are, kept.count, entries_within t entries are);
+    few_places =
+        let few : length u.rows.items ≤ length u.entries.items * n = omega (arith, ap length rows_are, few_dropped t kept rows are_rows, ap (λ k. k * n) (ap length entries_are ∙ length_dropped t kept entries are)) in
+        subst (λ m. length u.rows.items ≤ length u.entries.items * m) (sym letters) few;
+    places = subst (λ (ks : List ℕ). (b x : ℕ) → x < letter_count u.presentation.presentation → b < get_or ks x 0 → b * letter_count u.presentation.presentation + x < length u.rows.items) (sym ks_are)
+        (subst (λ (l : List Row). (b x : ℕ) → x < letter_count u.presentation.presentation → b < get_or bounds x 0 → b * letter_count u.presentation.presentation + x < length l) (sym rows_are)
+        (subst (λ m. (b x : ℕ) → x < m → b < get_or bounds x 0 → b * m + x < length (renumbered_rows t.entries.items rows)) (sym letters) dropped_places));
+    rest = subst (λ (ks : List ℕ). (b x : ℕ) → x < letter_count u.presentation.presentation → get_or ks x 0 ≤ b → get_or u.rows.items (b * letter_count u.presentation.presentation + x) [] ≡ []) (sym ks_are)
+        (subst (λ (l : List Row). (b x : ℕ) → x < letter_count u.presentation.presentation → get_or bounds x 0 ≤ b → get_or l (b * letter_count u.presentation.presentation + x) [] ≡ []) (sym rows_are)
+        (subst (λ m. (b x : ℕ) → x < m → get_or bounds x 0 ≤ b → get_or (renumbered_rows t.entries.items rows) (b * m + x) [] ≡ []) (sym letters) dropped_zero));
+    one_bound_each = ap length ks_are ∙ bounds_are.count ∙ kept.sound.valid.presentation.one_weight_each ∙ sym letters;
+    bounds = subst (λ (ks : List ℕ). All (λ bound. bound ≤ length u.entries.items) ks) (sym ks_are) (subst (λ l. All (λ bound. bound ≤ length l) bounds) (sym entries_are) bounds_are.within);
+    live_count = live_same ∙ kept.live_count ∙ ap length (sym (all_live (map none (live_words (table_of t))) (live_words (table_of t)) (nones (live_words (table_of t))) (length-map (live_words (table_of t)) none))) ∙ ap (λ U. length (live_words U)) (sym same);
+    own_reaches = subst (λ d. AreReaches d.presentation u.reaches) (sym presentation) (subst (λ r. AreReaches t.presentation.presentation r) (sym reaches) kept.own_reaches);
+  }
+    where
+      none : Word → Option Row
+      none w = None
+
+      letters : letter_count u.presentation.presentation ≡ n
+      letters = ap (λ (d : Draft). letter_count d.presentation) presentation
 
 -- the same by what the steps say
 pub dropped_entries : (t : Inside) (numbers : List ℕ) (cut new : List Entry) → numbers ≡ new_numbers t.entries.items → cut ≡ filter is_live_entry t.entries.items → AreNumbered numbers cut new → AreDropped t new
 dropped_entries t numbers cut new numbers_are cut_is are =
     subst (λ n. AreNumbered n (filter is_live_entry t.entries.items) new) numbers_are (subst (λ l. AreNumbered numbers l new) cut_is are)
 
-pub live_rows : (t : Inside) → IsKept t → (letters : ℕ) (entries : List Entry) (new : List (Option Row)) → letters ≡ length t.presentation.presentation.weights → entries ≡ t.entries.items → AreLiveRows letters entries t.rows.items new
+pub live_rows : (t : Inside) → IsKept t → (letters : ℕ) (entries : List Entry) (new : List Row) → letters ≡ length t.presentation.presentation.weights → entries ≡ t.entries.items → AreLiveRows letters entries t.rows.items new
     → AreLiveRows (letter_count t.presentation.presentation) t.entries.items t.rows.items new
 live_rows t kept letters entries new letters_are entries_are are =
     subst (λ n. AreLiveRows n t.entries.items t.rows.items new) (letters_are ∙ kept.sound.valid.presentation.one_weight_each) (subst (λ l. AreLiveRows letters l t.rows.items new) entries_are are)
 
 -- the table after the steps
-pub dropped_view : (t : Inside) → IsKept t → NamesLiveIds (table_of t) → (entries : List Entry) (kept_rows rows : List (Option Row)) (images : List Row) → AreDropped t entries
-    → AreLiveRows (letter_count t.presentation.presentation) t.entries.items t.rows.items kept_rows → rows ≡ renumbered_rows t.entries.items kept_rows → images ≡ map (numbered (new_numbers t.entries.items)) t.images.items
-    → tabled t.presentation t.level images rows entries ≡ without_dead (table_of t)
-dropped_view t kept live entries kept_rows rows images are are_rows rows_are images_are =
-    ap₂ (λ l r. tabled t.presentation t.level l r entries) images_are rows_are ∙ dropped t kept live entries kept_rows are are_rows
+pub dropped_view : (t : Inside) → IsKept t → NamesLiveIds (table_of t) → (entries : List Entry) (kept_rows rows images : List Row) (bounds : List ℕ) → AreDropped t entries
+    → AreLiveRows (letter_count t.presentation.presentation) t.entries.items t.rows.items kept_rows → AreBounds t.presentation.presentation.weights t.level entries bounds → rows ≡ renumbered_rows t.entries.items kept_rows
+    → images ≡ map (numbered (new_numbers t.entries.items)) t.images.items → tabled t.presentation t.level images bounds rows entries ≡ without_dead (table_of t)
+dropped_view t kept live entries kept_rows rows images bounds are are_rows bounds_are rows_are images_are =
+    ap₂ (λ l r. tabled t.presentation t.level l bounds r entries) images_are rows_are ∙ dropped t kept live entries kept_rows bounds are are_rows bounds_are

@@ -1,6 +1,8 @@
 -- A row or an image is put in another's place.
 use Rattle.std.proofs.Common.{false, true, ◌≡◌, ℕ, ◌+◌, ◌*◌, ◌<◌, ◌≤◌, ◌⊎◌, inl, inr, Some, None, List, [], length, get_or, refl, sym, ap, ap₂, subst, ◌∙◌, arith}
-use Rattle.std.specs.Prelude.{Option, IsSome, slice_get}
+use Rattle.std.specs.Prelude.{Option, All, IsSome, slice_get}
+use Rattle.std.specs.Prelude.{Vec as VecValue}
+use Rattle.std.specs.Global.{Global}
 use Rattle.std.proofs.Math.ListN.{set}
 use Rattle.std.proofs.lemmas.List.{length-set, get_or-set_same, get_or-set_other, get_or_past}
 use Rattle.std.proofs.lemmas.List.Elements.{All-set}
@@ -17,8 +19,8 @@ use Rattle.ve_table.specs.Rows.{listed}
 use Rattle.ve_table.specs.Kept.{table_of, IsEntryOf, IsKept}
 use Rattle.ve_table.specs.declared.table.Table.TheInside.{Inside}
 use Rattle.ve_table.specs.declared.entry.Entry.{Entry}
-use Rattle.ve_table.proofs.Entries.{same_some, tabled, has_entry, row_here}
-use Rattle.ve_table.proofs.Listed.{row_in, count_listed, wide_listed, listed_agrees, listed_is, set_agrees}
+use Rattle.ve_table.proofs.Entries.{same_some, tabled, has_entry, rows_agree, rows_below, row_bounded, zero_past}
+use Rattle.ve_table.proofs.Listed.{row_in, Agree, AreBelow, count_listed, wide_listed, listed_are_below, listed_is, set_agrees}
 use Rattle.ve_table.proofs.Killing.{read_set}
 
 -- images
@@ -91,6 +93,14 @@ row_written rows b x c y v is_some =
           | inr other ↦ inr (ap (λ l. get_or l y None) row_is ∙ get_or-set_other (get_or rows b []) x y (Some v) None other ∙ ap (λ n. row_in rows n y) (sym same))
         ]
 
+-- a row that is written was there
+pub set_below : (n ids : ℕ) (bounds : List ℕ) (lists : List (List (Option Row))) (b x : ℕ) (v : Row) → IsSome (row_in lists b x) → AreBelow n ids bounds lists → AreBelow n ids bounds (set lists b (set (get_or lists b []) x (Some v)))
+set_below n ids bounds lists b x v is_some below c y id letter =
+    elim (row_written lists b x c y v is_some) [
+      | inl here ↦ (λ _. (below c y id letter).0 (subst (λ m. IsSome (row_in lists c m)) here.1 (subst (λ m. IsSome (row_in lists m x)) here.0 is_some)), λ _. subst IsSome (sym here.2) refl)
+      | inr there ↦ (λ some. (below c y id letter).0 (subst IsSome there some), λ lt. subst IsSome (sym there) ((below c y id letter).1 lt))
+    ]
+
 pub sound_rowed : (T : ActionTable) (b x : ℕ) (v : Row) → IsSound T → IsSome (row_at T b x) → IsRowOf T b x v → IsSound (with_row T b x v)
 sound_rowed T b x v sound is_some is_row = record {
   valid = sound.valid;
@@ -124,19 +134,21 @@ sound_rowed T b x v sound is_some is_row = record {
     seen vector = record { stands = stood vector.stands; not_after = vector.not_after }
 
 -- the table with another row
-pub rowed : (draft : Draft) (level : ℕ) (images : List Row) (rows : List (Option Row)) (items : List Entry) (b x : ℕ) (v : Row) → length rows ≤ length items * letter_count draft.presentation → b < length items
-    → x < letter_count draft.presentation → b * letter_count draft.presentation + x < length rows
-    → tabled draft level images (set rows (b * letter_count draft.presentation + x) (Some v)) items ≡ with_row (tabled draft level images rows items) b x v
-rowed draft level images rows items b x v few id letter place =
+pub rowed : (draft : Draft) (level : ℕ) (images : List Row) (bounds : List ℕ) (rows : List Row) (items : List Entry) (b x : ℕ) (v : Row)
+    → Agree (letter_count draft.presentation) rows (listed (letter_count draft.presentation) (length items) bounds rows)
+    → IsSome (row_in (listed (letter_count draft.presentation) (length items) bounds rows) b x) → b < length items → x < letter_count draft.presentation → b * letter_count draft.presentation + x < length rows
+    → tabled draft level images bounds (set rows (b * letter_count draft.presentation + x) v) items ≡ with_row (tabled draft level images bounds rows items) b x v
+rowed draft level images bounds rows items b x v agree is_some id letter place =
     let n : ℕ = letter_count draft.presentation in
-    let lists : List (List (Option Row)) = listed n (length items) rows in
-    let wide = wide_listed n (length items) rows in
-    let inside : b < length lists = omega (arith, id, count_listed n (length items) rows) in
+    let lists : List (List (Option Row)) = listed n (length items) bounds rows in
+    let wide = wide_listed n (length items) bounds rows in
+    let inside : b < length lists = omega (arith, id, count_listed n (length items) bounds rows) in
     let width : length (get_or lists b []) ≡ n = wide b [] inside in
-    ap (λ (r : List (List (Option Row))). record (tabled draft level images rows items) { rows = r })
-    (listed_is n (length items) (set rows (b * n + x) (Some v)) (set lists b (set (get_or lists b []) x (Some v))) (length-set lists b (set (get_or lists b []) x (Some v)) ∙ count_listed n (length items) rows)
+    ap (λ (r : List (List (Option Row))). record (tabled draft level images bounds rows items) { rows = r })
+    (listed_is n (length items) bounds (set rows (b * n + x) v) (set lists b (set (get_or lists b []) x (Some v))) (length-set lists b (set (get_or lists b []) x (Some v)) ∙ count_listed n (length items) bounds rows)
     (All-set (λ (row : List (Option Row)). length row ≡ n) lists b (set (get_or lists b []) x (Some v)) (length-set (get_or lists b []) x (Some v) ∙ width) wide)
-    (set_agrees n rows lists b x (Some v) (listed_agrees n (length items) rows few) inside letter width place))
+    (set_agrees n rows lists b x v agree inside letter width place)
+    (set_below n (length items) bounds lists b x v is_some (listed_are_below n (length items) bounds rows)))
 
 pub kept_rowed : (T : ActionTable) (items : List Entry) (b x : ℕ) (v : Row) → ((c : ℕ) (f : Entry) → slice_get items c ≡ Some f → IsEntryOf T c f)
     → (c : ℕ) (f : Entry) → slice_get items c ≡ Some f → IsEntryOf (with_row T b x v) c f
@@ -146,14 +158,7 @@ kept_rowed T items b x v each c f found = let own = each c f found in record { o
 pub has_place : (t : Inside) → IsKept t → (b x : ℕ) → IsSome (row_at (table_of t) b x) → (b < length t.entries.items) × (x < letter_count t.presentation.presentation) × (b * letter_count t.presentation.presentation + x < length t.rows.items)
 has_place t kept b x is_some =
     let due = (kept.sound.due b x).0 is_some in
-    let place : ℕ = b * letter_count t.presentation.presentation + x in (
-      has_entry t kept b due.0,
-      due.1,
-      elim (cases_lt place (length t.rows.items)) [
-        | inl lt ↦ lt
-        | inr past ↦ absurd (none_is_some (row_at (table_of t) b x) (sym (row_here t kept b x due.1) ∙ get_or_past t.rows.items place None past) is_some)
-      ],
-    )
+    (has_entry t kept b due.0, due.1, kept.places b x due.1 (row_bounded t b x is_some))
 
 -- the place as a call has it
 pub set_place : (t : Inside) → IsKept t → (b x letters y : ℕ) → letters ≡ length t.presentation.presentation.weights → y ≡ x → b * letters + y ≡ b * letter_count t.presentation.presentation + x
@@ -161,22 +166,41 @@ set_place t kept b x letters y letters_are y_is = ap₂ (λ n z. b * n + z) (let
 
 -- the table with a row set
 pub row_set : (t : Inside) → IsKept t → (b x place : ℕ) (v : Row) → place ≡ b * letter_count t.presentation.presentation + x → IsSome (row_at (table_of t) b x)
-    → tabled t.presentation t.level t.images.items (set t.rows.items place (Some v)) t.entries.items ≡ with_row (table_of t) b x v
+    → tabled t.presentation t.level t.images.items t.bounds.items (set t.rows.items place v) t.entries.items ≡ with_row (table_of t) b x v
 row_set t kept b x place v place_is is_some =
     let there = has_place t kept b x is_some in
-    ap (λ k. tabled t.presentation t.level t.images.items (set t.rows.items k (Some v)) t.entries.items) place_is
-    ∙ rowed t.presentation t.level t.images.items t.rows.items t.entries.items b x v kept.few_places there.0 there.1 there.2
+    ap (λ k. tabled t.presentation t.level t.images.items t.bounds.items (set t.rows.items k v) t.entries.items) place_is
+    ∙ rowed t.presentation t.level t.images.items t.bounds.items t.rows.items t.entries.items b x v (rows_agree t kept) is_some there.0 there.1 there.2
 
-pub kept_with_row : (t u : Inside) → IsKept t → (b x place : ℕ) (v : Row) → IsSome (row_at (table_of t) b x) → IsRowOf (table_of t) b x v → table_of u ≡ with_row (table_of t) b x v → u.rows.items ≡ set t.rows.items place (Some v)
-    → u.entries.items ≡ t.entries.items → u.presentation ≡ t.presentation → u.live ≡ t.live → u.reaches ≡ t.reaches → IsKept u
-kept_with_row t u kept b x place v is_some is_row same rows entries presentation live reaches = record {
-  sound = subst IsSound (sym same) (sound_rowed (table_of t) b x v kept.sound is_some is_row);
-  entries = λ c f found. subst (λ U. IsEntryOf U c f) (sym same) (kept_rowed (table_of t) t.entries.items b x v kept.entries c f (subst (λ l. slice_get l c ≡ Some f) entries found));
-  count = omega (arith, kept.count, ap length entries);
-  few_places =
-      let count : length u.rows.items ≡ length t.rows.items = ap length rows ∙ length-set t.rows.items place (Some v) in
-      let few : length u.rows.items ≤ length u.entries.items * letter_count t.presentation.presentation = omega (arith, count, kept.few_places, ap (λ l. length l * letter_count t.presentation.presentation) entries) in
-      subst (λ d. length u.rows.items ≤ length u.entries.items * letter_count d.presentation) (sym presentation) few;
-  live_count = live ∙ kept.live_count ∙ ap (λ U. length (live_words U)) (sym same);
-  own_reaches = subst (λ d. AreReaches d.presentation u.reaches) (sym presentation) (subst (λ r. AreReaches t.presentation.presentation r) (sym reaches) kept.own_reaches);
-}
+pub kept_with_row : (t u : Inside) → IsKept t → (b x place : ℕ) (v : Row) → place ≡ b * letter_count t.presentation.presentation + x → IsSome (row_at (table_of t) b x) → IsRowOf (table_of t) b x v → table_of u ≡ with_row (table_of t) b x v
+    → u.rows.items ≡ set t.rows.items place v → u.bounds ≡ t.bounds → u.entries.items ≡ t.entries.items → u.presentation ≡ t.presentation → u.live ≡ t.live → u.reaches ≡ t.reaches → IsKept u
+kept_with_row t u kept b x place v place_is is_some is_row same rows bounds entries presentation live reaches =
+    let n : ℕ = letter_count t.presentation.presentation in
+    let letters : letter_count u.presentation.presentation ≡ n = ap (λ (d : Draft). letter_count d.presentation) presentation in
+    let count : length u.rows.items ≡ length t.rows.items = ap length rows ∙ length-set t.rows.items place v in
+    let there = has_place t kept b x is_some in
+    let inside : b < length (table_of t).rows = omega (arith, there.0, count_listed n (length t.entries.items) t.bounds.items t.rows.items) in
+    let width : length (get_or (table_of t).rows b []) ≡ n = kept.sound.one_place_each b [] inside in
+    let agree = set_agrees n t.rows.items (table_of t).rows b x v (rows_agree t kept) inside there.1 width there.2 in
+    let below = set_below n (length t.entries.items) t.bounds.items (table_of t).rows b x v is_some (rows_below t) in
+    let written : List (List (Option Row)) = set (table_of t).rows b (set (get_or (table_of t).rows b []) x (Some v)) in
+    let total : length written ≡ length t.entries.items = length-set (table_of t).rows b (set (get_or (table_of t).rows b []) x (Some v)) ∙ count_listed n (length t.entries.items) t.bounds.items t.rows.items in
+    let others : (c y : ℕ) → y < n → get_or t.bounds.items y 0 ≤ c → get_or (set t.rows.items (b * n + x) v) (c * n + y) [] ≡ [] =
+    zero_past n (length t.entries.items) t.bounds.items (set t.rows.items (b * n + x) v) written total agree below in
+    record {
+      sound = subst IsSound (sym same) (sound_rowed (table_of t) b x v kept.sound is_some is_row);
+      entries = λ c f found. subst (λ U. IsEntryOf U c f) (sym same) (kept_rowed (table_of t) t.entries.items b x v kept.entries c f (subst (λ l. slice_get l c ≡ Some f) entries found));
+      count = omega (arith, kept.count, ap length entries);
+      few_places =
+          let few : length u.rows.items ≤ length u.entries.items * n = omega (arith, count, kept.few_places, ap (λ l. length l * n) entries) in
+          subst (λ m. length u.rows.items ≤ length u.entries.items * m) (sym letters) few;
+      places = subst (λ (bs : VecValue ℕ Global). (c y : ℕ) → y < letter_count u.presentation.presentation → c < get_or bs.items y 0 → c * letter_count u.presentation.presentation + y < length u.rows.items) (sym bounds)
+          (subst (λ m. (c y : ℕ) → y < m → c < get_or t.bounds.items y 0 → c * m + y < length u.rows.items) (sym letters) (λ c y letter lt. let inside = kept.places c y letter lt in omega (arith, inside, count)));
+      rest = subst (λ (bs : VecValue ℕ Global). (c y : ℕ) → y < letter_count u.presentation.presentation → get_or bs.items y 0 ≤ c → get_or u.rows.items (c * letter_count u.presentation.presentation + y) [] ≡ []) (sym bounds)
+          (subst (λ m. (c y : ℕ) → y < m → get_or t.bounds.items y 0 ≤ c → get_or u.rows.items (c * m + y) [] ≡ []) (sym letters)
+          (λ c y letter past. ap (λ l. get_or l (c * n + y) []) (rows ∙ ap (λ k. set t.rows.items k v) place_is) ∙ others c y letter past));
+      one_bound_each = ap (λ (bs : VecValue ℕ Global). length bs.items) bounds ∙ kept.one_bound_each ∙ sym letters;
+      bounds = subst (λ (bs : VecValue ℕ Global). All (λ bound. bound ≤ length u.entries.items) bs.items) (sym bounds) (subst (λ l. All (λ bound. bound ≤ length l) t.bounds.items) (sym entries) kept.bounds);
+      live_count = live ∙ kept.live_count ∙ ap (λ U. length (live_words U)) (sym same);
+      own_reaches = subst (λ d. AreReaches d.presentation u.reaches) (sym presentation) (subst (λ r. AreReaches t.presentation.presentation r) (sym reaches) kept.own_reaches);
+    }

@@ -13,7 +13,8 @@ use Rattle.ve_theory.specs.Presentations.{Presentation, reach}
 use Rattle.ve_theory.specs.Levels.{steps_to}
 use Rattle.ve_lemmas.proofs.Weights.{weights_rise}
 use Rattle.ve_table.specs.Tables.{ActionTable, presented, reach_at, word_at, of_live, live_words}
-use Rattle.ve_table.specs.Kept.{table_of, IsKept}
+use Rattle.ve_table.specs.Sound.{IsSound}
+use Rattle.ve_table.specs.Kept.{table_of, IsEntryOf, IsKept}
 use Rattle.ve_table.specs.declared.table.Table.TheInside.{Inside}
 use Rattle.ve_table.proofs.Entries.{one_entry_each}
 use Rattle.ve_table.specs.declared.entry.Entry.{Entry}
@@ -118,14 +119,15 @@ zipped R (x ∷ xs) (y ∷ ys) d same each = (each 0 x refl, zipped R xs ys d (o
 
 -- reaches rise with the order of words
 
-pub rising_reaches : (t : Inside) → IsKept t → HasRisingReaches t.entries.items
-rising_reaches t kept i j d lt within =
-    let T : ActionTable = table_of t in
-    let es : List Entry = t.entries.items in
-    let first = kept.entries i (get_or es i d) (slice_get-get_or es i d (omega arith)) in
-    let second = kept.entries j (get_or es j d) (slice_get-get_or es j d within) in
-    let order = weights_rise (presented T).weights (word_at T i) (word_at T j) (kept.sound.rising i j (generator 0) lt (omega (arith, within, one_entry_each t kept))) in
+pub rising_entries : (T : ActionTable) (es : List Entry) → IsSound T → length es ≡ length T.words → ((b : ℕ) (e : Entry) → slice_get es b ≡ Some e → IsEntryOf T b e) → HasRisingReaches es
+rising_entries T es sound count each i j d lt within =
+    let first = each i (get_or es i d) (slice_get-get_or es i d (omega arith)) in
+    let second = each j (get_or es j d) (slice_get-get_or es j d within) in
+    let order = weights_rise (presented T).weights (word_at T i) (word_at T j) (sound.rising i j (generator 0) lt (omega (arith, within, count))) in
     omega (arith, order, first.own_reach, second.own_reach)
+
+pub rising_reaches : (t : Inside) → IsKept t → HasRisingReaches t.entries.items
+rising_reaches t kept = rising_entries (table_of t) t.entries.items kept.sound (one_entry_each t kept) kept.entries
 
 -- the steps of all entries are those of the live words
 pub steps_of_words : (t : Inside) → IsKept t → (k : ℕ) → sum_by (live_steps t.presentation.presentation.weights k) t.entries.items ≡ sum_by (steps_to t.presentation.presentation k) (live_words (table_of t))

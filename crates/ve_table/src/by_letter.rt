@@ -1,6 +1,6 @@
 //! Rows in one list, by id and then letter, put into a list for each letter.
 
-ghost use Rattle.std.specs.Prelude.{◌≡◌, ◌+◌, ◌-◌, ◌*◌, ◌<◌, ◌≤◌, All, IfOk, IsSome, None, OnOk, length, slice_index_or, take};
+ghost use Rattle.std.specs.Prelude.{◌≡◌, ◌+◌, ◌-◌, ◌*◌, ◌<◌, ◌≤◌, All, IfOk, OnOk, length, slice_index_or, take};
 ghost use Rattle.std.specs.Prelude.{Vec as VecValue, []};
 ghost use Rattle.std.specs.Global.{Global as GlobalValue};
 ghost use Rattle.ve_theory.specs.Answers.{Row};
@@ -15,12 +15,11 @@ const PART: usize = 8;
 
 /// For each letter the rows of all ids. Rows are moved, and the room that they had is given back on the way.
 pub(crate) fn rows_by_letter(
-    rows: Vec<Option<Sparse>>,
+    rows: Vec<Sparse>,
     letters: usize,
     ids: usize,
 ) -> Result<Vec<Vec<Sparse>>, Memory>
     requires places { length rows.items ≡ ids * letters }
-    requires full { All IsSome rows.items }
     ensures { IfOk result (λ lists. AreDealt letters ids 0 rows.items lists.items) }
 {
     let mut left = rows;
@@ -29,7 +28,7 @@ pub(crate) fn rows_by_letter(
     left.reverse();
     'ids: for _id in 0..ids {
         'letters: for letter in 0..letters {
-            let row = take_last(&mut left).unwrap();
+            let row = take_last(&mut left);
             lists[letter].push(row)?;
         }
         give_back(&mut left);
@@ -50,15 +49,16 @@ fn empty_lists(alloc: Global, letters: usize, ids: usize) -> Result<Vec<Vec<Spar
 }
 
 /// Takes the last row away.
-fn take_last(rows: &mut Vec<Option<Sparse>>) -> Option<Sparse>
-    ensures row { result ≡ slice_index_or rows.old.items (length rows.old.items - 1) None }
+fn take_last(rows: &mut Vec<Sparse>) -> Sparse
+    requires { 0 < length rows.old.items }
+    ensures row { result ≡ slice_index_or rows.old.items (length rows.old.items - 1) [] }
     ensures rest { rows.new.items ≡ take (length rows.old.items - 1) rows.old.items }
 {
-    rows.pop()?
+    rows.pop().unwrap()
 }
 
 /// Gives room back where a part of it is empty.
-fn give_back(rows: &mut Vec<Option<Sparse>>)
+fn give_back(rows: &mut Vec<Sparse>)
     ensures { rows.new.items ≡ rows.old.items }
 {
     let room = rows.capacity();

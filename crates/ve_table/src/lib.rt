@@ -2,6 +2,7 @@
 #![tactic(auto)]
 
 mod birth;
+mod bounds;
 mod by_letter;
 mod entry;
 mod origin;

@@ -36,8 +36,10 @@ pub struct Table {
     // In the order of their words.
     entries: Vec<Entry>,
     // For each id and then letter. The last ids may have no places yet.
-    rows: Vec<Option<Sparse>>,
-    // How many of them are live.
+    rows: Vec<Sparse>,
+    // For each letter, how many ids have a row. They are the first ones.
+    bounds: Vec<u32>,
+    // How many ids are live.
     live: u32,
     images: Vec<Sparse>,
 }
@@ -258,13 +260,14 @@ impl Rows for Table {
     ghost rows = { row_at };
 
     fn row(&self, id: u32, letter: u8) -> Option<&Sparse> {
-        let letters = self.presentation.weights().len();
-        if usize::from(letter) >= letters {
+        let letters = self.bounds.len();
+        let place = usize::from(letter);
+        if place >= letters {
             return None;
         }
-        match self.rows.get(id as usize * letters + usize::from(letter)) {
-            Some(row) => row.as_ref(),
-            None => None,
+        if id >= self.bounds[place] {
+            return None;
         }
+        Some(&self.rows[id as usize * letters + place])
     }
 }

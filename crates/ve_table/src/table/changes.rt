@@ -30,7 +30,7 @@ impl Table {
     {
         let letters = self.presentation.weights().len();
         let place = id as usize * letters + usize::from(letter);
-        self.rows[place] = Some(row);
+        self.rows[place] = row;
     }
 
     /// Puts a vector in the place of a generator's image.

@@ -15,7 +15,8 @@ impl Table {
             reaches: self.reaches.copy()?,
             level: self.level,
             entries: copy_entries(&self.entries)?,
-            rows: copy_rows(&self.rows)?,
+            rows: copy_vectors(&self.rows)?,
+            bounds: Vec::from_slice(*self.bounds.allocator(), &self.bounds)?,
             live: self.live,
             images: copy_vectors(&self.images)?,
         })
@@ -41,16 +42,6 @@ fn copy_entry(entry: &Entry) -> Result<Entry, Memory>
         length: entry.length,
         forward: copy_row(&entry.forward)?,
     })
-}
-
-fn copy_rows(rows: &Vec<Option<Sparse>>) -> Result<Vec<Option<Sparse>>, Memory>
-    ensures { IfOk result (λ copies. copies.items ≡ rows.now.items) }
-{
-    let mut copies = Vec::with_capacity(*rows.allocator(), rows.len())?;
-    for row in rows {
-        copies.push(copy_row(row)?)?;
-    }
-    Ok(copies)
 }
 
 fn copy_row(row: &Option<Sparse>) -> Result<Option<Sparse>, Memory>

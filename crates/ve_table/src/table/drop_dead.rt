@@ -5,8 +5,9 @@ ghost use Rattle.ve_table.specs.Changes.{without_dead};
 ghost use Rattle.ve_table.specs.Numbers.{AreNumbered, CanNumber, CanNumberEntry, is_live_entry, new_numbers};
 
 use crate::Table;
+use crate::bounds::set_bounds;
 use crate::entry::Entry;
-use crate::rows::{keep_live_rows, renumber_rows};
+use crate::rows::keep_live_rows;
 use ve_vec::Sparse;
 use ve_word::Memory;
 
@@ -23,8 +24,14 @@ impl Table {
         keep_live_rows(&mut self.rows, &self.entries, letters);
         drop_dead_entries(&mut self.entries);
         renumber_entries(self.entries.as_mut_slice(), &numbers);
-        renumber_rows(self.rows.as_mut_slice(), &numbers);
-        renumber_images(self.images.as_mut_slice(), &numbers);
+        renumber_vectors(self.rows.as_mut_slice(), &numbers);
+        renumber_vectors(self.images.as_mut_slice(), &numbers);
+        set_bounds(
+            self.bounds.as_mut_slice(),
+            &self.entries,
+            self.presentation.weights(),
+            self.level,
+        );
         Ok(())
     }
 }
@@ -60,11 +67,11 @@ fn renumber_entries(entries: &mut [Entry], numbers: &[u32])
     }
 }
 
-fn renumber_images(images: &mut [Sparse], numbers: &[u32])
-    requires { All (CanNumber numbers.now) images.old }
-    ensures { images.new ≡ map (numbered numbers.now) images.old }
+fn renumber_vectors(vectors: &mut [Sparse], numbers: &[u32])
+    requires { All (CanNumber numbers.now) vectors.old }
+    ensures { vectors.new ≡ map (numbered numbers.now) vectors.old }
 {
-    for image in images {
-        image.renumber(numbers);
+    for vector in vectors {
+        vector.renumber(numbers);
     }
 }

@@ -5,6 +5,7 @@ ghost use Rattle.ve_table.specs.Changes.{Grows, next_count};
 ghost use Rattle.ve_table.specs.Growth.{CanDefine, entry_of_birth};
 
 use crate::birth::{Birth, births};
+use crate::bounds::set_bounds;
 use crate::entry::Entry;
 use crate::rows::{set_units, take_places};
 use crate::{Origin, Table};
@@ -38,6 +39,12 @@ impl Table {
             ids as u32,
         );
         add_entries(&mut self.entries, &births, level);
+        set_bounds(
+            self.bounds.as_mut_slice(),
+            &self.entries,
+            self.presentation.weights(),
+            level,
+        );
         self.live += births.len() as u32;
         self.level = level;
         Ok(())

@@ -5,6 +5,7 @@ ghost use Rattle.ve_table.specs.Sound.{IsSound};
 ghost use Rattle.ve_table.specs.Changes.{opened};
 ghost use Rattle.ve_table.specs.Roots.{AreRoots};
 
+use crate::bounds::no_bounds;
 use crate::entry::Entry;
 use crate::reaches::Reaches;
 use crate::{Origin, Table};
@@ -23,12 +24,14 @@ impl Table {
         presentation.is_valid();
         let reaches = Reaches::of(alloc, &presentation)?;
         let roots = presentation.roots() as u8;
+        let letters = presentation.weights().len();
         Ok(Table {
             presentation,
             reaches,
             level: 0,
             entries: root_entries(alloc, roots)?,
             rows: Vec::new(alloc),
+            bounds: no_bounds(alloc, letters)?,
             live: u32::from(roots),
             images: root_images(alloc, roots)?,
         })

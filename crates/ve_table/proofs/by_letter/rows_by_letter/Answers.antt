@@ -1,16 +1,16 @@
-use Rattle.std.proofs.Common.{◌≡◌, ℕ, ◌+◌, ◌-◌, ◌*◌, ◌<◌, ◌∙◌, None, List, refl, ap, subst, sym, length, take, arith}
-use Rattle.std.specs.Prelude.{Option, IsSome, reverse}
+use Rattle.std.proofs.Common.{◌≡◌, ℕ, ◌+◌, ◌-◌, ◌*◌, ◌<◌, ◌∙◌, List, [], refl, ap, subst, sym, length, take, arith}
+use Rattle.std.specs.Prelude.{reverse}
 use Rattle.std.proofs.Math.Seq.{take-length}
 use Rattle.std.proofs.lemmas.List.{length-reverse}
 use Rattle.std.proofs.lemmas.Option.{slice_get_read}
 use Rattle.ve_theory.specs.Answers.{Row}
 use Rattle.ve_table.specs.ByLetter.{AreDealt}
-use Rattle.ve_table.proofs.ByLetter.{none_dealt, letter_dealt, round_ends, next_left, next_here, place_within}
+use Rattle.ve_table.proofs.ByLetter.{none_dealt, letter_dealt, round_ends, next_left, next_here, some_left, place_within}
 use Rattle.ve_table.proofs.by_letter.rows_by_letter.Goals as goal
 
 pub ids-init : goal.ids-init
 ids-init c =
-    let all : List (Option Row) = c.args.rows.items in
+    let all : List Row = c.args.rows.items in
     let whole : length all - 0 * c.args.letters ≡ length (reverse all) = omega (arith, length-reverse all) in
     record {
       left = c.reverse.ensures.items ∙ sym (ap (λ n. take n (reverse all)) whole ∙ take-length (reverse all));
@@ -19,35 +19,34 @@ ids-init c =
 
 pub letters-init : goal.letters-init
 letters-init c =
-    let all : List (Option Row) = c.args.rows.items in
+    let all : List Row = c.args.rows.items in
     let same : length all - c.ids._id * c.args.letters ≡ length all - (c.ids._id * c.args.letters + 0) = omega arith in
     record { left = c.ids.invariant.left ∙ ap (λ n. take n (reverse all)) same; dealt = c.ids.invariant.dealt }
 
-pub unwrap-row-requires : goal.unwrap-row-requires
-unwrap-row-requires c =
+pub take_last-row-requires : goal.take_last-row-requires
+take_last-row-requires c =
     let inside = place_within c.args.letters c.args.ids c.ids._id c.letters.letter (length c.args.rows.items) c.requires.places c.ids-test.true c.letters-test.true in
-    let taken = c.take_last.ensures.row ∙ next_here c.args.rows.items c.letters.left.items (c.ids._id * c.args.letters + c.letters.letter) c.letters.invariant.left inside None in
-    subst IsSome (sym taken) (c.requires.full (c.ids._id * c.args.letters + c.letters.letter) None inside)
+    some_left c.args.rows.items c.letters.left.items (c.ids._id * c.args.letters + c.letters.letter) c.letters.invariant.left inside
 
 pub letters-preserved : goal.letters-preserved
 letters-preserved c =
-    let all : List (Option Row) = c.args.rows.items in
+    let all : List Row = c.args.rows.items in
     let n : ℕ = c.ids._id * c.args.letters + c.letters.letter in
     let inside = place_within c.args.letters c.args.ids c.ids._id c.letters.letter (length all) c.requires.places c.ids-test.true c.letters-test.true in
-    let taken = c.take_last.ensures.row ∙ next_here all c.letters.left.items n c.letters.invariant.left inside None in
+    let taken = c.take_last-row.ensures.row ∙ next_here all c.letters.left.items n c.letters.invariant.left inside [] in
     let next : length all - (n + 1) ≡ length all - (c.ids._id * c.args.letters + (c.letters.letter + 1)) = omega arith in
     let there : c.letters.letter < length c.letters.lists.items = omega (arith, c.letters.invariant.dealt.count, c.letters-test.true) in
     record {
-      left = c.take_last.ensures.rest ∙ next_left all c.letters.left.items n c.letters.invariant.left inside ∙ ap (λ m. take m (reverse all)) next;
+      left = c.take_last-row.ensures.rest ∙ next_left all c.letters.left.items n c.letters.invariant.left inside ∙ ap (λ m. take m (reverse all)) next;
       dealt =
-          letter_dealt c.args.letters c.ids._id c.letters.letter all c.letters.lists.items c.index_mut.result.now c.push.new.self c.unwrap-row.result c.letters.invariant.dealt
+          letter_dealt c.args.letters c.ids._id c.letters.letter all c.letters.lists.items c.index_mut.result.now c.push.new.self c.take_last-row.result c.letters.invariant.dealt
           (slice_get_read c.letters.lists.items (length c.letters.lists.items) c.letters.letter c.index_mut.result.now refl there c.index_mut.ensures.value)
-          c.in_ok-push.ensures.items (sym taken ∙ c.unwrap-row.ensures);
+          c.in_ok-push.ensures.items (sym taken);
     }
 
 pub ids-preserved : goal.ids-preserved
 ids-preserved c =
-    let all : List (Option Row) = c.args.rows.items in
+    let all : List Row = c.args.rows.items in
     let end : c.letters.letter ≡ c.args.letters = omega (arith, c.letters-test.false, c.letters.auto.letter-end) in
     let next : c.ids._id * c.args.letters + c.args.letters ≡ (c.ids._id + 1) * c.args.letters = omega arith in
     record {

@@ -1,5 +1,4 @@
 use Rattle.std.proofs.Common.{◌≡◌, ℕ, List, get_or, ap, sym, subst, ◌∙◌, arith}
-use Rattle.std.specs.Prelude.{Option}
 use Rattle.std.proofs.lemmas.List.{with_items_is}
 use Rattle.ve_theory.specs.Answers.{Row}
 use Rattle.ve_table.specs.declared.entry.Entry.{Entry}
@@ -18,7 +17,7 @@ loop-id-preserved c =
     let es : List Entry = c.args.entries.now in
     let i : ℕ = c.loop-id.id in
     let k : ℕ = c.loop-id.kept in
-    let now : List (Option Row) = c.loop-id.rows.items in
+    let now : List Row = c.loop-id.rows.items in
     let d : Entry = c.index-entries-id.result in
     let so_far = c.loop-id.invariant in
     let here : is_live_entry (get_or es i d) ≡ c.is_live.result = ap is_live_entry (sym c.index-entries-id.is) ∙ sym c.is_live.ensures.value in

@@ -1,6 +1,5 @@
-use Rattle.std.proofs.Common.{◌≡◌, length, map, refl, sym, ap, ap₂, subst, ◌∙◌}
-use Rattle.std.specs.Prelude.{All, IfSome, filter}
-use Rattle.std.specs.Option.{option_map}
+use Rattle.std.proofs.Common.{◌≡◌, ℕ, List, length, map, refl, sym, ap, ap₂, subst, ◌∙◌, arith}
+use Rattle.std.specs.Prelude.{All, filter}
 use Rattle.std.proofs.lemmas.List.{with_items_is, length-map}
 use Rattle.std.specs.Vec.{with_items}
 use Rattle.ve_theory.specs.Presentations.{letter_count}
@@ -8,11 +7,13 @@ use Rattle.ve_vec.specs.Vectors.{numbered}
 use Rattle.ve_table.specs.Sound.{IsSound, NamesLiveIds}
 use Rattle.ve_table.specs.Changes.{without_dead}
 use Rattle.ve_table.specs.Kept.{table_of}
-use Rattle.ve_table.specs.Rows.{AreLiveRows}
+use Rattle.ve_table.specs.Rows.{AreBounds, AreLiveRows}
+use Rattle.ve_table.specs.Steps.{HasRisingReaches}
+use Rattle.ve_table.specs.declared.entry.Entry.{Entry}
 use Rattle.ve_table.specs.Numbers.{is_live_entry, new_numbers, CanNumber, CanNumberEntry}
 use Rattle.ve_table.proofs.Entries.{tabled}
 use Rattle.ve_table.proofs.Dropping.{sound_dropped}
-use Rattle.ve_table.proofs.Renumbering.{can_number_entries, can_number_rows, can_number_images, renumbered_rows, live_rows, AreDropped, dropped_entries, dropped_view, kept_dropped}
+use Rattle.ve_table.proofs.Renumbering.{can_number_entries, can_number_rows, can_number_images, renumbered_rows, live_rows, AreDropped, dropped_entries, entries_within, dropped_view, dropped_rises, kept_dropped}
 use Rattle.ve_table.proofs.table.Table.drop_dead.Goals as goal
 
 pub renumber_entries-requires : goal.renumber_entries-requires
@@ -21,20 +22,26 @@ renumber_entries-requires c =
     (subst (λ n. All (CanNumberEntry n) (filter is_live_entry c.self.inside.entries.items)) (sym (c.deref-2.ensures.value ∙ c.in_ok-numbers.ensures))
     (can_number_entries c.self.inside c.self.invariant))
 
-pub renumber_rows-requires : goal.renumber_rows-requires
-renumber_rows-requires c =
+pub renumber_vectors-requires : goal.renumber_vectors-requires
+renumber_vectors-requires c =
     let live : NamesLiveIds (table_of c.self.inside) = subst NamesLiveIds (sym c.self.view_is) c.requires in
     let kept = live_rows c.self.inside c.self.invariant c.len-letters.result c.deref.result.now c.keep_live_rows.new.rows.items (c.len-letters.ensures ∙ c.weights.result.now.ok.0 ∙ ap length c.weights.ensures) c.deref.ensures.value c.keep_live_rows.ensures in
-    subst (λ l. All (λ row. IfSome row (CanNumber c.deref-3.result.now)) l) (sym c.as_mut_slice-2.ensures.value)
-    (subst (λ n. All (λ row. IfSome row (CanNumber n)) c.keep_live_rows.new.rows.items) (sym (c.deref-3.ensures.value ∙ c.in_ok-numbers.ensures))
+    subst (λ l. All (CanNumber c.deref-3.result.now) l) (sym c.as_mut_slice-2.ensures.value)
+    (subst (λ n. All (CanNumber n) c.keep_live_rows.new.rows.items) (sym (c.deref-3.ensures.value ∙ c.in_ok-numbers.ensures))
     (can_number_rows c.self.inside c.self.invariant live c.keep_live_rows.new.rows.items kept))
 
-pub renumber_images-requires : goal.renumber_images-requires
-renumber_images-requires c =
+pub renumber_vectors-requires-2 : goal.renumber_vectors-requires-2
+renumber_vectors-requires-2 c =
     let live : NamesLiveIds (table_of c.self.inside) = subst NamesLiveIds (sym c.self.view_is) c.requires in
     subst (λ l. All (CanNumber c.deref-4.result.now) l) (sym c.as_mut_slice-3.ensures.value)
     (subst (λ n. All (CanNumber n) c.self.inside.images.items) (sym (c.deref-4.ensures.value ∙ c.in_ok-numbers.ensures))
     (can_number_images c.self.inside c.self.invariant live))
+
+entries_set : (c : goal.After-deref-6) → AreDropped c.self.inside (with_items c.drop_dead_entries.new.entries c.renumber_entries.new.entries).items
+entries_set c =
+    subst (AreDropped c.self.inside) (sym (with_items_is c.drop_dead_entries.new.entries c.renumber_entries.new.entries (c.renumber_entries.ensures.count ∙ c.as_mut_slice.ensures.len)))
+    (dropped_entries c.self.inside c.deref-2.result.now c.as_mut_slice.result.now c.renumber_entries.new.entries (c.deref-2.ensures.value ∙ c.in_ok-numbers.ensures) (c.as_mut_slice.ensures.value ∙ c.drop_dead_entries.ensures)
+    c.renumber_entries.ensures)
 
 live : (c : goal.After-drop-numbers) → NamesLiveIds (table_of c.self.inside)
 live c = subst NamesLiveIds (sym c.self.view_is) c.requires
@@ -48,25 +55,37 @@ entries_are c =
     (dropped_entries c.self.inside c.deref-2.result.now c.as_mut_slice.result.now c.renumber_entries.new.entries (c.deref-2.ensures.value ∙ c.in_ok-numbers.ensures) (c.as_mut_slice.ensures.value ∙ c.drop_dead_entries.ensures)
     c.renumber_entries.ensures)
 
-rows_are : (c : goal.After-drop-numbers) → (with_items c.keep_live_rows.new.rows c.renumber_rows.new.rows).items ≡ renumbered_rows c.self.inside.entries.items c.keep_live_rows.new.rows.items
+rows_are : (c : goal.After-drop-numbers) → (with_items c.keep_live_rows.new.rows c.renumber_vectors.new.vectors).items ≡ renumbered_rows c.self.inside.entries.items c.keep_live_rows.new.rows.items
 rows_are c =
-    with_items_is c.keep_live_rows.new.rows c.renumber_rows.new.rows
-    (ap length c.renumber_rows.ensures ∙ length-map c.as_mut_slice-2.result.now (option_map (numbered c.deref-3.result.now)) ∙ c.as_mut_slice-2.ensures.len)
-    ∙ c.renumber_rows.ensures ∙ ap₂ (λ n l. map (option_map (numbered n)) l) (c.deref-3.ensures.value ∙ c.in_ok-numbers.ensures) c.as_mut_slice-2.ensures.value
+    with_items_is c.keep_live_rows.new.rows c.renumber_vectors.new.vectors
+    (ap length c.renumber_vectors.ensures ∙ length-map c.as_mut_slice-2.result.now (numbered c.deref-3.result.now) ∙ c.as_mut_slice-2.ensures.len)
+    ∙ c.renumber_vectors.ensures ∙ ap₂ (λ n l. map (numbered n) l) (c.deref-3.ensures.value ∙ c.in_ok-numbers.ensures) c.as_mut_slice-2.ensures.value
 
-images_are : (c : goal.After-drop-numbers) → (with_items c.self.inside.images c.renumber_images.new.images).items ≡ map (numbered (new_numbers c.self.inside.entries.items)) c.self.inside.images.items
+images_are : (c : goal.After-drop-numbers) → (with_items c.self.inside.images c.renumber_vectors-2.new.vectors).items ≡ map (numbered (new_numbers c.self.inside.entries.items)) c.self.inside.images.items
 images_are c =
-    with_items_is c.self.inside.images c.renumber_images.new.images
-    (ap length c.renumber_images.ensures ∙ length-map c.as_mut_slice-3.result.now (numbered c.deref-4.result.now) ∙ c.as_mut_slice-3.ensures.len)
-    ∙ c.renumber_images.ensures ∙ ap₂ (λ n l. map (numbered n) l) (c.deref-4.ensures.value ∙ c.in_ok-numbers.ensures) c.as_mut_slice-3.ensures.value
+    with_items_is c.self.inside.images c.renumber_vectors-2.new.vectors
+    (ap length c.renumber_vectors-2.ensures ∙ length-map c.as_mut_slice-3.result.now (numbered c.deref-4.result.now) ∙ c.as_mut_slice-3.ensures.len)
+    ∙ c.renumber_vectors-2.ensures ∙ ap₂ (λ n l. map (numbered n) l) (c.deref-4.ensures.value ∙ c.in_ok-numbers.ensures) c.as_mut_slice-3.ensures.value
+
+bounds_are : (c : goal.After-drop-numbers) →
+    AreBounds c.self.inside.presentation.presentation.weights c.self.inside.level (with_items c.drop_dead_entries.new.entries c.renumber_entries.new.entries).items (with_items c.self.inside.bounds c.set_bounds.new.bounds).items
+bounds_are c =
+    let W : List ℕ = c.self.inside.presentation.presentation.weights in
+    let es : List Entry = (with_items c.drop_dead_entries.new.entries c.renumber_entries.new.entries).items in
+    let is : AreBounds W c.self.inside.level es c.set_bounds.new.bounds =
+    subst (λ w. AreBounds w c.self.inside.level es c.set_bounds.new.bounds) (c.deref-6.ensures.value ∙ c.weights-2.ensures)
+    (subst (λ l. AreBounds c.deref-6.result.now c.self.inside.level l c.set_bounds.new.bounds) c.deref-5.ensures.value c.set_bounds.ensures) in
+    subst (AreBounds W c.self.inside.level es)
+    (sym (with_items_is c.self.inside.bounds c.set_bounds.new.bounds (is.count ∙ c.self.invariant.sound.valid.presentation.one_weight_each ∙ sym c.self.invariant.one_bound_each ∙ sym c.self.inside.bounds.ok.0))) is
 
 same : (c : goal.After-drop-numbers) →
-    tabled c.self.inside.presentation c.self.inside.level (with_items c.self.inside.images c.renumber_images.new.images).items (with_items c.keep_live_rows.new.rows c.renumber_rows.new.rows).items
-    (with_items c.drop_dead_entries.new.entries c.renumber_entries.new.entries).items
+    tabled c.self.inside.presentation c.self.inside.level (with_items c.self.inside.images c.renumber_vectors-2.new.vectors).items (with_items c.self.inside.bounds c.set_bounds.new.bounds).items
+    (with_items c.keep_live_rows.new.rows c.renumber_vectors.new.vectors).items (with_items c.drop_dead_entries.new.entries c.renumber_entries.new.entries).items
     ≡ without_dead (table_of c.self.inside)
 same c =
     dropped_view c.self.inside c.self.invariant (live c) (with_items c.drop_dead_entries.new.entries c.renumber_entries.new.entries).items c.keep_live_rows.new.rows.items
-    (with_items c.keep_live_rows.new.rows c.renumber_rows.new.rows).items (with_items c.self.inside.images c.renumber_images.new.images).items (entries_are c) (kept_rows c) (rows_are c) (images_are c)
+    (with_items c.keep_live_rows.new.rows c.renumber_vectors.new.vectors).items (with_items c.self.inside.images c.renumber_vectors-2.new.vectors).items (with_items c.self.inside.bounds c.set_bounds.new.bounds).items
+    (entries_are c) (kept_rows c) (bounds_are c) (rows_are c) (images_are c)
 
 pub returns-clause-ok : goal.returns-clause-ok
 returns-clause-ok c = same c ∙ ap without_dead c.self.view_is
@@ -75,4 +94,13 @@ pub returns-clause-sound : goal.returns-clause-sound
 returns-clause-sound c = subst IsSound (sym (same c)) (sound_dropped (table_of c.self.inside) c.self.invariant.sound (live c))
 
 pub invariant_of-self : goal.invariant_of-self
-invariant_of-self c = kept_dropped c.self.inside _ c.self.invariant (live c) (entries_are c) c.keep_live_rows.new.rows.items (kept_rows c) (rows_are c) (same c) refl refl refl
+invariant_of-self c =
+    kept_dropped c.self.inside c.self.invariant (live c) (with_items c.drop_dead_entries.new.entries c.renumber_entries.new.entries).items c.keep_live_rows.new.rows.items
+    (with_items c.self.inside.bounds c.set_bounds.new.bounds).items (entries_are c) (kept_rows c) (bounds_are c) _ refl (rows_are c) refl (same c) refl refl refl
+
+pub set_bounds-requires-clause-rising : goal.set_bounds-requires-clause-rising
+set_bounds-requires-clause-rising c =
+    subst HasRisingReaches (sym c.deref-5.ensures.value) (dropped_rises c.self.inside c.self.invariant (subst NamesLiveIds (sym c.self.view_is) c.requires) _ (entries_set c))
+
+pub set_bounds-requires-clause-count : goal.set_bounds-requires-clause-count
+set_bounds-requires-clause-count c = omega (arith, ap length c.deref-5.ensures.value, c.self.invariant.count, entries_within c.self.inside _ (entries_set c))

@@ -22,19 +22,19 @@ index_mut-requires c =
 pub returns-clause-dead : goal.returns-clause-dead
 returns-clause-dead c =
     rw (← c.self.view_is)
-    (killed c.self.inside.presentation c.self.inside.level c.self.inside.images.items c.self.inside.rows.items c.self.inside.entries.items c.args.id c.index_mut.result.now c.index_mut.result.now c.args.forward c.index_mut.ensures.value)
+    (killed c.self.inside.presentation c.self.inside.level c.self.inside.images.items c.self.inside.bounds.items c.self.inside.rows.items c.self.inside.entries.items c.args.id c.index_mut.result.now c.index_mut.result.now c.args.forward c.index_mut.ensures.value)
 
 pub returns-clause-sound : goal.returns-clause-sound
 returns-clause-sound c =
     let is_forward : IsForwardOf (table_of c.self.inside) c.args.id c.args.forward = subst (λ T. IsForwardOf T c.args.id c.args.forward) (sym c.self.view_is) c.requires.forward in
     subst IsSound
-    (sym (killed c.self.inside.presentation c.self.inside.level c.self.inside.images.items c.self.inside.rows.items c.self.inside.entries.items c.args.id c.index_mut.result.now c.index_mut.result.now c.args.forward c.index_mut.ensures.value))
+    (sym (killed c.self.inside.presentation c.self.inside.level c.self.inside.images.items c.self.inside.bounds.items c.self.inside.rows.items c.self.inside.entries.items c.args.id c.index_mut.result.now c.index_mut.result.now c.args.forward c.index_mut.ensures.value))
     (sound_killed (table_of c.self.inside) c.args.id c.args.forward c.self.invariant.sound is_forward)
 
 pub invariant_of-self : goal.invariant_of-self
 invariant_of-self c =
     let T : ActionTable = table_of c.self.inside in
-    let same = killed c.self.inside.presentation c.self.inside.level c.self.inside.images.items c.self.inside.rows.items c.self.inside.entries.items c.args.id c.index_mut.result.now c.index_mut.result.now c.args.forward c.index_mut.ensures.value in
+    let same = killed c.self.inside.presentation c.self.inside.level c.self.inside.images.items c.self.inside.bounds.items c.self.inside.rows.items c.self.inside.entries.items c.args.id c.index_mut.result.now c.index_mut.result.now c.args.forward c.index_mut.ensures.value in
     let is_forward : IsForwardOf T c.args.id c.args.forward = subst (λ T. IsForwardOf T c.args.id c.args.forward) (sym c.self.view_is) c.requires.forward in
     let live : IsLive T c.args.id = subst (λ T. IsLive T c.args.id) (sym c.self.view_is) c.requires.live in
     let id : IsId T c.args.id = rw (sym c.self.invariant.sound.one_forward_each) (slice_get_within _ _ _ live) in
@@ -46,6 +46,10 @@ invariant_of-self c =
           (record { origin = own.origin; own_reach = own.own_reach; own_length = own.own_length }) b e found);
       count = rw (length-set c.self.inside.entries.items c.args.id _) c.self.invariant.count;
       few_places = rw (length-set c.self.inside.entries.items c.args.id _) c.self.invariant.few_places;
+      places = c.self.invariant.places;
+      rest = c.self.invariant.rest;
+      one_bound_each = c.self.invariant.one_bound_each;
+      bounds = rw (length-set c.self.inside.entries.items c.args.id _) c.self.invariant.bounds;
       live_count = subst (λ U. c.self.inside.live - 1 ≡ length (live_words U)) (sym same) (live_killed T c.args.id c.self.inside.live c.args.forward c.self.invariant.sound.one_forward_each live c.self.invariant.live_count);
       own_reaches = c.self.invariant.own_reaches;
     }

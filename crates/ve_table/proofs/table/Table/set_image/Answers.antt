@@ -20,6 +20,10 @@ invariant_of-self c =
       entries = kept_imaged T c.self.inside.entries.items c.from.result c.args.image c.self.invariant.entries;
       count = c.self.invariant.count;
       few_places = c.self.invariant.few_places;
+      places = c.self.invariant.places;
+      rest = c.self.invariant.rest;
+      one_bound_each = c.self.invariant.one_bound_each;
+      bounds = c.self.invariant.bounds;
       live_count = c.self.invariant.live_count;
       own_reaches = c.self.invariant.own_reaches;
     }
