@@ -2,7 +2,6 @@
 pub mod Listed
 pub mod LiveRows
 pub mod Setting
-pub mod InPlace
 -- ---- ids and their words
 pub mod Entries
 pub mod Spelling

@@ -1,7 +1,7 @@
 use Rattle.std.proofs.Common.{get_or, ap, sym, subst, ◌∙◌, arith}
 use Rattle.ve_vec.specs.Vectors.{numbered}
 use Rattle.ve_table.specs.Numbers.{CanNumber}
-use Rattle.ve_table.proofs.InPlace.{get_or-unmapped, map_next}
+use Rattle.ve_lemmas.proofs.InPlace.{get_or-unmapped, map_next}
 use Rattle.ve_table.proofs.table.drop_dead.renumber_vectors.Goals as goal
 
 can_number : (c : goal.After-vector-item) → CanNumber c.args.numbers.now (get_or c.loop-vector.vector-items c.loop-vector.vector-index c.vector-item.result)
