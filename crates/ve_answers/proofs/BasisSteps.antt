@@ -11,6 +11,7 @@ use Rattle.ve_matrix.specs.Answers.{NameEarlierPlaces}
 use Rattle.ve_table.specs.declared.origin.Origin.{Origin}
 use Rattle.ve_table.specs.Books.{spelled, words_after, words_of}
 use Rattle.ve_table.specs.Numbers.{HasParentBelow}
+use Rattle.ve_matrix.proofs.BasisWords.{length-words_after}
 use Rattle.ve_answers.specs.declared.head.Head.{Head}
 use Rattle.ve_answers.specs.declared.lines.Lines.{Lines}
 use Rattle.ve_answers.specs.declared.refusal.AnswerRefusal.{AnswerRefusal}
@@ -27,11 +28,6 @@ words_after-push : (known : List Word) (origins : List Origin) (o : Origin) → 
 unfolding words_after
 words_after-push known [] o = refl
 words_after-push known (p ∷ origins) o = words_after-push (known ++ spelled known p ∷ []) origins o
-
-length-words_after : (known : List Word) (origins : List Origin) → length (words_after known origins) ≡ length known + length origins
-unfolding words_after
-length-words_after known [] = omega arith
-length-words_after known (o ∷ origins) = length-words_after (known ++ spelled known o ∷ []) origins ∙ omega (arith, length_push known (spelled known o))
 
 push_cases : (origins : List Origin) (o p : Origin) (b : ℕ) → slice_get (origins ++ o ∷ []) b ≡ Some p → (slice_get origins b ≡ Some p) ⊎ ((b ≡ length origins) × (o ≡ p))
 push_cases [] o p zero found = let same : o ≡ p = cc in inr (refl, same)

@@ -11,6 +11,7 @@ use Rattle.ve_formats.specs.Lines.{each_after_space}
 use Rattle.ve_formats.specs.AnswerText.{numbered}
 use Rattle.ve_formats.specs.AnswerReading as places
 use Rattle.ve_formats.specs.AnswerReading.{AreNames, Draft, Place, Fills, a_version, a_prime, some_names, some_generators, a_level, a_dimension}
+use Rattle.ve_formats.proofs.SpacedPieces.{numbers_once}
 use Rattle.ve_answers.specs.declared.lines.Lines.{Lines}
 use Rattle.ve_answers.specs.declared.refusal.AnswerRefusal.{AnswerRefusal}
 use Rattle.ve_answers.specs.declared.refusal.AnswerRefusal.TheVariants.{Line}
@@ -22,12 +23,6 @@ prime_small : (p : ℕ) → IsFieldPrime p → p ≤ 255
 unfolding primes
 prime_small p h = let less = ltb-true p 256 (All-contains (λ q. ltb q 256 ≡ true) primes p (AllPass-from_list_all (λ q. ltb q 256) primes refl) h) in omega (arith, less)
 
-number_of : (word : List ℕ) (m n : ℕ) → m < 2 ^ 64 → n < 2 ^ 64 → numbered word m ≡ numbered word n → m ≡ n
-number_of word m n small other is =
-    let tails : 32 ∷ decimal m ≡ 32 ∷ decimal n = append_cancel_left word (32 ∷ decimal m) (32 ∷ decimal n) is in
-    let same : decimal m ≡ decimal n = cc in
-    decimal_injective m n small other same
-
 pub prime_read : {old new : Lines} (p : ℕ) → IsFieldPrime p → TakesLine old (numbered (codes "prime") p) new → ReadsLine places.prime old (λ draft. record draft { prime = p }) new
 prime_read p is takes draft left = line_leads takes (a_prime p is)
 
@@ -38,7 +33,7 @@ pub no_prime : {old new : Lines} {refusal : AnswerRefusal} (n : ℕ) → n ≤ 2
 no_prime n most unfit takes told draft left =
     next_refused left
     (taken_refused (λ line. (p : ℕ) × IsFieldPrime p × (line ≡ numbered (codes "prime") p)) takes told
-    (λ a. unfit (subst IsFieldPrime (number_of (codes "prime") a.0 n (omega (arith, prime_small a.0 a.1)) (omega (arith, most)) (sym a.2)) a.1)))
+    (λ a. unfit (subst IsFieldPrime (numbers_once (codes "prime") a.0 n (omega (arith, prime_small a.0 a.1)) (omega (arith, most)) (sym a.2)) a.1)))
     (λ next line f. is_prime f)
 
 pub generators_read : {old new : Lines} (s : ℕ) → 0 < s → s ≤ 255 → TakesLine old (numbered (codes "module") s) new → ReadsLine places.generators old (λ draft. record draft { generators = s }) new
@@ -51,7 +46,7 @@ pub no_generators : {old new : Lines} {refusal : AnswerRefusal} (n : ℕ) → n 
 no_generators n zero takes told draft left =
     next_refused left
     (taken_refused (λ line. (s : ℕ) × (0 < s) × (s ≤ 255) × (line ≡ numbered (codes "module") s)) takes told
-    (λ a. let same : n ≡ a.0 = number_of (codes "module") n a.0 (omega (arith, zero)) (omega (arith, a.2)) a.3 in absurd (omega (arith, same, zero, a.1))))
+    (λ a. let same : n ≡ a.0 = numbers_once (codes "module") n a.0 (omega (arith, zero)) (omega (arith, a.2)) a.3 in absurd (omega (arith, same, zero, a.1))))
     (λ next line f. is_generators f)
 
 pub names_read : {old new : Lines} (line : List ℕ) (xs : List (List ℕ)) → AreNames xs → line ≡ codes "letters" ++ each_after_space xs → TakesLine old line new → ReadsLine places.names old (λ draft. record draft { names = xs }) new

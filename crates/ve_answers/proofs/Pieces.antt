@@ -8,6 +8,7 @@ use Rattle.std.proofs.lemmas.List.{map-append, take-append-drop}
 use Rattle.std.proofs.lemmas.List.Elements.{All-nil, All-push}
 use Rattle.ve_formats.specs.Lines.{each_after_space, each_after_space-append, each_after_space-one}
 use Rattle.ve_formats.specs.Pieces.{IsCutBy, Lacks}
+use Rattle.ve_formats.proofs.SpacedPieces.{after_space-cut}
 
 -- ---- up to the first space
 
@@ -53,13 +54,8 @@ pub lack_more : (pieces : List (Bor (List ℕ))) (piece : Bor (List ℕ)) → Al
 lack_more pieces piece all last = subst (All (Lacks 32)) (sym (map-append (λ piece. piece.now) pieces (piece ∷ []))) (All-push (Lacks 32) (map (λ piece. piece.now) pieces) piece.now all last)
 
 -- a text of pieces begins with a space
-pieces_cut : (xs : List (List ℕ)) → IsCutBy 32 (each_after_space xs)
-unfolding each_after_space
-pieces_cut [] = tt
-pieces_cut (x ∷ xs) = refl
-
 pub begins_cut : (text : List ℕ) (xs : List (List ℕ)) → text ≡ each_after_space xs → IsCutBy 32 text
-begins_cut text xs is = subst (IsCutBy 32) (sym is) (pieces_cut xs)
+begins_cut text xs is = subst (IsCutBy 32) (sym is) (after_space-cut xs)
 
 pub not_cut : (text : List ℕ) → false ≡ nat_eq (length text) 0 → ((rest : List ℕ) → text ≡ 32 ∷ rest → ⊥) → IsCutBy 32 text → ⊥
 not_cut [] some other cut = true≢false (sym some)

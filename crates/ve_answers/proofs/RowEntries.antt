@@ -13,6 +13,7 @@ use Rattle.ve_theory.proofs.Sums.{coefficient-absent, coefficient-append}
 use Rattle.ve_formats.specs.Lines.{each_after_space, numbers_below}
 use Rattle.ve_formats.specs.AnswerText.{row_entries}
 use Rattle.ve_formats.specs.Pieces.{Lacks}
+use Rattle.ve_formats.proofs.NumbersBelow.{length-numbers_below, number_at}
 use Rattle.ve_answers.specs.declared.head.Head.{Head}
 use Rattle.ve_answers.specs.Rows.{IsEntryLine, IsRowLine}
 
@@ -145,19 +146,6 @@ row_done p entries left v is none = ((is.row.reduced, is.row.places), λ place. 
 
 -- ---- the lines of entries and of rows
 
-length-numbers_below : (n : ℕ) → length (numbers_below n) ≡ n
-unfolding numbers_below
-length-numbers_below zero = refl
-length-numbers_below (suc n) = omega (arith, length_push (numbers_below n) n, length-numbers_below n)
-
-number_at : (n at d : ℕ) → at < n → get_or (numbers_below n) at d ≡ at
-unfolding numbers_below
-number_at zero at d less = absurd (omega (arith, less))
-number_at (suc n) at d less = elim (cases_lt at n) [
-  | inl below ↦ get_or_append_left (numbers_below n) (n ∷ []) d at (omega (arith, length-numbers_below n, below)) ∙ number_at n at d below
-  | inr above ↦ get_or_push (numbers_below n) n d at (omega (arith, length-numbers_below n, less, above)) ∙ omega (arith, less, above)
-]
-
 entries_in : ℕ → Row → List ℕ
 entries_in n v = map (λ place. coefficient nat_eq v place) (numbers_below n)
 
@@ -180,7 +168,7 @@ same_entries n v entries count same =
     (λ k d inside.
     let less : k < n = omega (arith, inside, length-entries_in n v) in
     get_or-map (λ place. coefficient nat_eq v place) (numbers_below n) k 0 d (omega (arith, less, length-numbers_below n))
-    ∙ ap (λ place. coefficient nat_eq v place) (number_at n k 0 less) ∙ same k ∙ get_or_default entries k 0 d (omega (arith, less, count)))
+    ∙ ap (λ place. coefficient nat_eq v place) (number_at n k less) ∙ same k ∙ get_or_default entries k 0 d (omega (arith, less, count)))
 
 -- a row has a line of entries, and entries have a line of their row
 pub row_has_entries : (head : Head) (word line : List ℕ) (v : Row) → 0 < head.field → IsRowLine head word line v → (entries : List ℕ) × IsEntryLine head word line entries

@@ -11,6 +11,7 @@ use Rattle.ve_table.specs.declared.origin.Origin.{Origin}
 use Rattle.ve_table.specs.Books.{spelled, words_after, words_of}
 use Rattle.ve_matrix.specs.declared.answer.Answer.{Answer}
 use Rattle.ve_matrix.specs.Answers.{IsAnswerValue, NameEarlierPlaces, answer_of}
+use Rattle.ve_matrix.proofs.BasisWords.{length-words_of}
 use Rattle.ve_answers.specs.declared.head.Head.{Head}
 use Rattle.ve_answers.specs.declared.lines.Lines.{Lines}
 use Rattle.ve_answers.specs.declared.refusal.AnswerRefusal.{AnswerRefusal}
@@ -44,13 +45,8 @@ whole_refused text lines (Line number) rest none h =
     let same : h.behind ≡ number = omega (arith, h.count, none) in
     subst (λ n. IsNoAnswerAt text n) same (subst (λ t. FailAt blank_draft head_places (lines_of t) h.behind) rest h.fails)
 
-pub length-words_after : (words : List Word) (origins : List Origin) → length (words_after words origins) ≡ length words + length origins
-unfolding words_after
-length-words_after words [] = omega arith
-length-words_after words (o ∷ os) = length-words_after (words ++ spelled words o ∷ []) os ∙ omega (arith, length_push words (spelled words o))
-
 pub few_origins : (origins : List Origin) → length (words_of origins) < 2 ^ 32 → length origins < 2 ^ 32
-few_origins origins small = omega (arith, length-words_after [] origins, small)
+few_origins origins small = omega (arith, length-words_of origins, small)
 
 -- ---- part by part
 
