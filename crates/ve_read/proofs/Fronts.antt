@@ -1,11 +1,11 @@
 -- What the tokens of a line begin with.
-use Rattle.std.proofs.Common.{◌≡◌, ℕ, inl, inr, true, Option, Some, None, List, [], ◌∷◌, codes, refl, sym, ap, ◌∙◌, subst, Bor, length, arith, ◌+◌, ◌<◌, ◌≤◌, drop, get_or, drop-cons, add-one}
-use Rattle.std.proofs.lemmas.List.{drop_all}
+use Rattle.std.proofs.Common.{◌≡◌, ℕ, inl, inr, Option, Some, None, List, [], ◌∷◌, codes, refl, sym, ap, ◌∙◌, subst, Bor, length, arith}
 use Rattle.std.specs.Prelude.{MatchOption, IsTrue}
 use Rattle.std.proofs.lemmas.Bool.{cases_Bool, cond-false}
 use Rattle.std.proofs.lemmas.List.Elements.{All-head, All-tail, All-same}
 use Rattle.ve_theory.specs.Words.{same_letters}
 use Rattle.ve_theory.specs.Validity.{is_name}
+use Rattle.ve_lemmas.proofs.Words.{same_letters-true}
 use Rattle.ve_formats.specs.Tokens.{Token, name, number, symbol}
 use Rattle.ve_formats.specs.LineReading.{take_weight, unweighted, with_weight, take_declared, letter_or_pair, declared_alone, form_of, form_behind, keyword}
 use Rattle.ve_formats.specs.PresentationLines as lines
@@ -15,12 +15,6 @@ use Rattle.ve_lex.specs.declared.token.Token.TheVariants.{Name, Number, Symbol}
 use Rattle.ve_lex.specs.Lexed.{token_of}
 use Rattle.ve_value.specs.Shapes.{AreWritten, IsWritten, tokens_in}
 use Rattle.ve_read.specs.Fronts.{IsNumberIn, HasNoNumber, IsWordIn, HasNoWord, IsWeightIn}
-use Rattle.ve_read.proofs.SameWords.{same_letters-pointwise}
-use lib.Pointwise.{bytes_decides}
-
--- two words are the same exactly where they are compared so
-pub same_word : (u v : List ℕ) → same_letters u v ≡ true → u ≡ v
-same_word u v h = (bytes_decides u v).0 (same_letters-pointwise u v ∙ h)
 
 -- the first of some tokens, and the others
 module _ {tokens : List Placed} {first : Placed} {rest : List Placed} (are : tokens ≡ first ∷ rest) where
@@ -50,17 +44,6 @@ module _ {tokens : List Placed} {first : Placed} {rest : List Placed} (are : tok
   pub named_first : (text : Bor (List ℕ)) → first.token ≡ Name text → AreWritten tokens → IsTrue (is_name text.now)
   named_first text is written = subst IsWritten is (first_written written)
 
--- what stands past the end of a list of tokens
-abbrev pub past_end : Placed
-past_end = record { token = Name (record { ref_ptr = (0, 0); now = [] }); start = 0; end = 0 }
-
--- the tokens from a place on
-pub tokens_from : (tokens : List Placed) (i : ℕ) → i < length tokens → tokens_in (drop i tokens) ≡ token_of (get_or tokens i past_end).token ∷ tokens_in (drop (i + 1) tokens)
-tokens_from tokens i h = rw (add-one i) (ap tokens_in (drop-cons tokens i past_end h))
-
-pub tokens_past : (tokens : List Placed) (i : ℕ) → length tokens ≤ i → tokens_in (drop i tokens) ≡ []
-tokens_past tokens i h = ap tokens_in (drop_all i tokens h)
-
 pub none_first : (tokens : List Placed) → length tokens ≡ 0 → tokens_in tokens ≡ []
 none_first [] none = refl
 none_first (t ∷ tokens) none = absurd (omega arith)
@@ -81,7 +64,7 @@ no_weight x [] none = refl
 no_weight x (name k ∷ []) none = refl
 no_weight x (name k ∷ number digits ∷ ts) none =
     elim (cases_Bool (same_letters k (codes "weight"))) [
-      | inl same ↦ absurd (none (number digits ∷ ts) (ap (λ w. name w ∷ number digits ∷ ts) (same_word k (codes "weight") same)))
+      | inl same ↦ absurd (none (number digits ∷ ts) (ap (λ w. name w ∷ number digits ∷ ts) (same_letters-true k (codes "weight") same)))
       | inr other ↦ cond-false _ _ _ other
     ]
 no_weight x (name k ∷ name y ∷ ts) none = refl
@@ -130,7 +113,7 @@ pub no_pair : (x : lines.Declared) (ts : List Token) → (ts ≡ [] → ⊥) →
 no_pair x [] some none = absurd (some refl)
 no_pair x (name k ∷ ts) some none =
     elim (cases_Bool (same_letters k (codes "inverse"))) [
-      | inl same ↦ absurd (none ts (ap (λ w. name w ∷ ts) (same_word k (codes "inverse") same)))
+      | inl same ↦ absurd (none ts (ap (λ w. name w ∷ ts) (same_letters-true k (codes "inverse") same)))
       | inr other ↦ cond-false _ _ _ other
     ]
 no_pair x (number digits ∷ ts) some none = refl

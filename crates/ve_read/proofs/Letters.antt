@@ -3,9 +3,10 @@ use Rattle.std.proofs.Common.{◌≡◌, ℕ, ◌+◌, ◌<◌, ◌≤◌, ◌�
 use Rattle.std.specs.Prelude.{Contains, IsTrue, IsFalse, IsErrOf, slice_get, ◌↔◌, unwrap_or}
 use Rattle.std.proofs.lemmas.Bool.{cases_Bool, cases_lt}
 use Rattle.std.proofs.lemmas.List.{set-get_or}
-use Rattle.std.proofs.lemmas.Option.{slice_get_within, get_or_from_slice_get, slice_get-get_or}
+use Rattle.std.proofs.lemmas.Option.{get_or_from_slice_get, slice_get-get_or}
 use Rattle.ve_theory.specs.Presentations.{Presentation, most_weight}
 use Rattle.ve_theory.specs.Validity.{is_rooted, most_letters}
+use Rattle.ve_lemmas.proofs.Lists.{Contains-slice_get}
 use Rattle.ve_formats.specs.Causes.{Cause, bad_weight}
 use Rattle.ve_formats.specs.PresentationLines as lines
 use Rattle.ve_formats.specs.PresentationLines.{Declares, free, rooted, taken, full, misweighed, with_letter, with_first, weight_of}
@@ -18,12 +19,9 @@ use Rattle.ve_read.specs.Drafts.{WeighsAs, Judges}
 
 -- names
 
-pub contains_at : (names : List (List ℕ)) (name : List ℕ) (letter : ℕ) → slice_get names letter ≡ Some name → Contains names name
-contains_at names name letter at = (letter, slice_get_within names letter name at, get_or_from_slice_get names letter name name at)
-
 pub name_fault : (P : Presentation) (x : lines.Declared) (fault : NameFault) → IsNameFault P.names x.called fault → Tells (λ cause. Declares P x (Some cause)) (of_name_fault fault)
 name_fault P x Rooted h = rooted h
-name_fault P x (Taken letter) h = taken (contains_at P.names x.called letter h)
+name_fault P x (Taken letter) h = taken (Contains-slice_get P.names x.called letter h)
 name_fault P x Full h = full h.1 h.0 (let e = h.2 in omega arith)
 name_fault P x Memory h = refl
 
@@ -52,7 +50,7 @@ free_letter P x h = free_facts P x None h refl
 -- a name that is new has no fault
 no_name_fault : (P : Presentation) (x : lines.Declared) (Q : Cause → Type 0) (fault : NameFault) → IsNewName P.names x.called → IsNameFault P.names x.called fault → Tells Q (of_name_fault fault)
 no_name_fault P x Q Rooted new h = absurd (let plain = new.plain in cc)
-no_name_fault P x Q (Taken letter) new h = absurd (new.absent (contains_at P.names x.called letter h))
+no_name_fault P x Q (Taken letter) new h = absurd (new.absent (Contains-slice_get P.names x.called letter h))
 no_name_fault P x Q Full new h = absurd (let e = h.2 in let room = new.room in omega arith)
 no_name_fault P x Q Memory new h = refl
 

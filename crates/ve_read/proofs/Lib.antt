@@ -1,14 +1,17 @@
+-- ---- words and tokens
 mod SameWords
 mod Fronts
 mod Equations
-mod Told
+mod Depth
+-- ---- lines
 mod Letters
 mod HeaderLines
 mod LetterLines
 mod RelationLines
-mod Depth
-mod LineSteps
-mod TextSteps
 mod EndLines
+mod LineSteps
+-- ---- texts
+mod Told
+mod TextSteps
 mod Cuts
 mod SingleCuts

@@ -1,22 +1,21 @@
 -- One line.
 use Rattle.std.proofs.Common.{◌≡◌, ◌≢◌, ◌↔◌, ℕ, ◌⊎◌, inl, inr, List, [], ◌∷◌, map, Some, None, Result, Ok, Err, refl, sym, ap, ◌∙◌, subst}
-use Rattle.std.specs.Prelude.{IsTrue, All}
+use Rattle.std.specs.Prelude.{All}
 use Rattle.std.proofs.lemmas.List.Elements.{All-head, All-tail, All-cons, All-nil}
-use Rattle.ve_theory.specs.Validity.{is_name}
 use Rattle.ve_formats.specs.Causes.{after_end, too_deep, wrong_line}
 use Rattle.ve_formats.specs.Tokens as defined
-use Rattle.ve_formats.specs.Tokens.{Token, name, number, symbol, Begins, with_name, with_number, with_symbol, Lexes, at_end, at_comment, past_separator, past_token}
+use Rattle.ve_formats.specs.Tokens.{Token, Lexes, at_end, at_comment, past_separator, past_token}
 use Rattle.ve_formats.specs.LineReading.{form_of}
 use Rattle.ve_formats.specs.PresentationLines as lines
 use Rattle.ve_formats.specs.PresentationLines.{Draft, Line, SpellLine, MayStand, Works}
 use Rattle.ve_formats.specs.PresentationText.{Refuses, IsTooDeep, tokens_of, taken, faulty_behind_end, faulty, deep, formless, meaningless}
 use Rattle.ve_lex.specs.declared.token.Placed.{Placed}
 use Rattle.ve_lex.specs.declared.token.Token as lexed
-use Rattle.ve_lex.specs.declared.token.Token.TheVariants.{Name, Number, Symbol}
 use Rattle.ve_lex.specs.declared.token.LexFault.{LexFault}
 use Rattle.ve_lex.specs.declared.token.LexFault.TheVariants.{BadByte, LongNumber, Memory}
 use Rattle.ve_lex.specs.Lexed.{token_of, placed_of, HasItsValue, IsFaultOf}
 use Rattle.ve_value.specs.Shapes.{AreWritten, IsWritten, tokens_in}
+use Rattle.ve_value.proofs.LexedTokens.{written, begins_named, IsNamed}
 use Rattle.ve_read.specs.declared.draft.Draft as program
 use Rattle.ve_read.specs.declared.why.Why.{Why}
 use Rattle.ve_read.specs.declared.why.Why.TheVariants.{Lex}
@@ -44,32 +43,17 @@ known_fault fault (inr (x, is)) none = cc
 
 -- the tokens of a lexed line are written as names and numbers
 
-abbrev IsNamed : Token → Type 0
-IsNamed (name bytes) = IsTrue (is_name bytes)
-IsNamed (number digits) = Unit {0}
-IsNamed (symbol b) = Unit {0}
-
-begins_named : {text rest : List ℕ} {token : Token} → Begins text token rest → IsNamed token
-begins_named (with_name split is stops) = is
-begins_named (with_number split is short stops) = tt
-begins_named (with_symbol split is) = tt
-
 lexes_named : {at : ℕ} {text : List ℕ} {tokens : List defined.Placed} → Lexes at text tokens → All (λ (p : defined.Placed). IsNamed p.token) tokens
 lexes_named at_end = All-nil (λ (p : defined.Placed). IsNamed p.token)
 lexes_named (at_comment is) = All-nil (λ (p : defined.Placed). IsNamed p.token)
 lexes_named (past_separator is separates rest) = lexes_named rest
 lexes_named (past_token {token} begins rest) = All-cons (λ (p : defined.Placed). IsNamed p.token) _ _ (begins_named begins) (lexes_named rest)
 
-token_written : (token : lexed.Token) → IsNamed (token_of token) → HasItsValue token → IsWritten token
-token_written (Name bytes) named value = named
-token_written (Number value digits) named is = is
-token_written (Symbol b) named value = tt
-
 all_written : (tokens : List Placed) → All (λ (p : defined.Placed). IsNamed p.token) (map placed_of tokens) → All (λ (placed : Placed). HasItsValue placed.token) tokens → AreWritten tokens
 all_written [] named values = All-nil (λ (placed : Placed). IsWritten placed.token)
 all_written (t ∷ tokens) named values =
     All-cons (λ (placed : Placed). IsWritten placed.token) t tokens
-    (token_written t.token (All-head (λ (p : defined.Placed). IsNamed p.token) _ _ named) (All-head (λ (placed : Placed). HasItsValue placed.token) _ _ values))
+    (written t.token (All-head (λ (p : defined.Placed). IsNamed p.token) _ _ named) (All-head (λ (placed : Placed). HasItsValue placed.token) _ _ values))
     (all_written tokens (All-tail (λ (p : defined.Placed). IsNamed p.token) _ _ named) (All-tail (λ (placed : Placed). HasItsValue placed.token) _ _ values))
 
 pub lexed_written : (line : List ℕ) (tokens : List Placed) → Lexes 0 line (map placed_of tokens) → All (λ (placed : Placed). HasItsValue placed.token) tokens → AreWritten tokens

@@ -2,7 +2,7 @@ use Rattle.std.proofs.Common.{◌≡◌, cond, arith, refl, ap, ◌∙◌, get_o
 use Rattle.std.specs.Int.{from_bool}
 use Rattle.ve_formats.specs.PresentationText.{is_sign}
 use Rattle.ve_lex.specs.Lexed.{token_of}
-use Rattle.ve_read.proofs.Fronts.{tokens_from, tokens_past, past_end}
+use Rattle.ve_value.proofs.TokenLists.{past_end, tokens_from, tokens_past}
 use Rattle.ve_read.proofs.Depth.{deep_here, deep_nowhere, deep_further, counted_if, counts_one}
 use Rattle.ve_read.proofs.lines.is_too_deep.Goals as goal
 
