@@ -8,48 +8,7 @@ use Rattle.ve_table.specs.declared.origin.Origin.TheVariants.{Root, Child}
 use Rattle.ve_table.specs.Books.{spelled, words_after, words_of}
 use Rattle.ve_table.specs.Numbers.{HasParentBelow}
 use Rattle.ve_matrix.specs.Answers.{NameEarlierPlaces}
-
--- later origins change no word that is known
-kept : (known : List Word) (os : List Origin) (j : ℕ) → j < length known → get_or (words_after known os) j (generator 0) ≡ get_or known j (generator 0)
-unfolding words_after
-kept known [] j below = refl
-kept known (o ∷ os) j below =
-    kept (known ++ spelled known o ∷ []) os j (omega (arith, length_push known (spelled known o))) ∙ get_or_append_left known (spelled known o ∷ []) (generator 0) j below
-
--- an origin spells one word on lists that agree below it
-spelled_alike : (known others : List Word) (o : Origin) → ((j : ℕ) → j < length known → get_or others j (generator 0) ≡ get_or known j (generator 0)) → HasParentBelow (length known) o → spelled known o ≡ spelled others o
-unfolding spelled
-spelled_alike known others (Root i) same parent = refl
-spelled_alike known others (Child parent x) same below = ap (λ w. times w x) (sym (same parent below))
-
-words_after-cons : (known : List Word) (o : Origin) (os : List Origin) → words_after known (o ∷ os) ≡ words_after (known ++ spelled known o ∷ []) os
-unfolding words_after
-words_after-cons known o os = refl
-
-words_at : (known : List Word) (os : List Origin) (b : ℕ) (o : Origin) → slice_get os b ≡ Some o → HasParentBelow (length known + b) o
-    → get_or (words_after known os) (length known + b) (generator 0) ≡ spelled (words_after known os) o
-words_at known [] b o found parent = absurd (no_item b o found)
-  where
-    no_item : (b : ℕ) (o : Origin) → slice_get {X = Origin} [] b ≡ Some o → ⊥
-    no_item b o found = cc
-words_at known (q ∷ os) zero o found parent =
-    let next : List Word = known ++ spelled known q ∷ [] in
-    let here : q ≡ o = cc in
-    let start : length known + 0 ≡ length known = omega arith in
-    ap (λ j. get_or (words_after known (q ∷ os)) j (generator 0)) start
-    ∙ ap (λ ws. get_or ws (length known) (generator 0)) (words_after-cons known q os) ∙ kept next os (length known) (omega (arith, length_push known (spelled known q)))
-    ∙ get_or_last known (spelled known q)
-    ∙ ap (spelled known) here
-    ∙ spelled_alike known (words_after known (q ∷ os)) o (kept known (q ∷ os)) (subst (λ n. HasParentBelow n o) start parent)
-  where
-    get_or_last : (ws : List Word) (w : Word) → get_or (ws ++ w ∷ []) (length ws) (generator 0) ≡ w
-    get_or_last ws w = ap (λ j. get_or (ws ++ w ∷ []) j (generator 0)) (omega arith) ∙ get_or-append-add ws (w ∷ []) 0 (generator 0)
-words_at known (q ∷ os) (suc b) o found parent =
-    let next : List Word = known ++ spelled known q ∷ [] in
-    let place : length known + suc b ≡ length next + b = omega (arith, length_push known (spelled known q)) in
-    ap (λ j. get_or (words_after known (q ∷ os)) j (generator 0)) place
-    ∙ ap (λ ws. get_or ws (length next + b) (generator 0)) (words_after-cons known q os)
-    ∙ words_at next os b o found (subst (λ n. HasParentBelow n o) place parent) ∙ ap (λ ws. spelled ws o) (sym (words_after-cons known q os))
+use Rattle.ve_matrix.proofs.BasisWords.{word_of_origin}
 
 -- the word of a place
 abbrev pub word_of : List Origin → ℕ → Word
@@ -57,13 +16,13 @@ word_of os b = get_or (words_of os) b (generator 0)
 
 pub word_of-root : (os : List Origin) (b i : ℕ) → slice_get os b ≡ Some (Root i) → word_of os b ≡ generator i
 unfolding spelled
-word_of-root os b i found = ap (λ j. get_or (words_of os) j (generator 0)) (omega arith) ∙ words_at [] os b (Root i) found tt
+word_of-root os b i found = word_of_origin os b (Root i) found tt
 
 pub word_of-child : (os : List Origin) (b parent x : ℕ) → NameEarlierPlaces os → slice_get os b ≡ Some (Child parent x) → (parent < b) × (word_of os b ≡ times (word_of os parent) x)
 unfolding spelled
 word_of-child os b parent x earlier found =
     let below : parent < b = earlier b (Child parent x) found in
-    (below, ap (λ j. get_or (words_of os) j (generator 0)) (omega arith) ∙ words_at [] os b (Child parent x) found (omega arith))
+    (below, word_of_origin os b (Child parent x) found below)
 
 -- ---- climbing
 
