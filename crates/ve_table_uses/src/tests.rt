@@ -185,7 +185,7 @@ fn relates_in_module(
 }
 
 fn resolves(alloc: Global, table: &Table, id: u32, vector: Terms) -> Result<bool, Memory> {
-    let _prime = table.presentation().field().prime();
+    table.presentation().field().has_prime();
     if id >= table.id_count() {
         return Ok(false);
     }

@@ -1,7 +1,7 @@
 use Rattle.std.proofs.Common.{ap, subst, ◌<◌, ◌∙◌}
 use Rattle.ve_pres.specs.Drafts.{Draft}
 use Rattle.ve_table.specs.Tables.{element_of, presented}
-use Rattle.ve_table_uses.proofs.Vanishing.{derived_too}
+use Rattle.ve_trace.proofs.Vanishing.{derived_too}
 use Rattle.ve_table_uses.proofs.imposing.impose.Goals as goal
 
 pub delete-requires-clause-derived : goal.delete-requires-clause-derived

@@ -1,7 +1,7 @@
 use Rattle.std.proofs.Common.{ap, ◌∙◌}
 use Rattle.ve_theory.specs.Presentations.{relator}
 use Rattle.ve_pres.specs.Drafts.{Draft}
-use Rattle.ve_table_uses.proofs.Vanishing.{found, relator_found, relator_vanishes}
+use Rattle.ve_trace.proofs.Vanishing.{found, relator_found, relator_vanishes}
 use Rattle.ve_table_uses.proofs.imposing.traced_relator.Goals as goal
 
 pub trace_relator-requires-clause-rows : goal.trace_relator-requires-clause-rows

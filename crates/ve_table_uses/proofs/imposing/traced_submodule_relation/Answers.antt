@@ -3,7 +3,7 @@ use Rattle.ve_theory.specs.Combinations.{IsReduced}
 use Rattle.ve_theory.specs.Presentations.{submodule_relation}
 use Rattle.ve_theory.specs.Answers.{Row}
 use Rattle.ve_pres.specs.Drafts.{Draft}
-use Rattle.ve_table_uses.proofs.Vanishing.{found, relation_found, relation_vanishes}
+use Rattle.ve_trace.proofs.Vanishing.{found, relation_found, relation_vanishes}
 use Rattle.ve_table_uses.proofs.imposing.traced_submodule_relation.Goals as goal
 
 pub trace_sub-requires-clause-rows : goal.trace_sub-requires-clause-rows
