@@ -193,7 +193,7 @@ fn element_of(alloc: Global, field: &Field, count: u8, words: Words) -> Result<F
     ensures reduced { IfOk result (λ r. IsReduced ShortlexLetters field.now r) }
     ensures letters { IfOk result (λ r. HasLettersBelow count r) }
 {
-    let _prime = field.prime();
+    field.has_prime();
     let mut sum = FreeAlg::zero(alloc);
     for word in words {
         let mut product = FreeAlg::constant(alloc, field, 1)?;
@@ -214,7 +214,7 @@ fn in_module(alloc: Global, field: &Field, element: &FreeAlg) -> Result<FreeMod,
     ensures reduced { IfOk result (λ v. IsReduced Shortlex field.now v) }
     ensures words { IfOk result (λ v. (m n : ℕ) → 0 < m → HasLettersBelow n element.now → HasWordsBelow m n v) }
 {
-    let _prime = field.prime();
+    field.has_prime();
     let first = FreeMod::root(alloc, 0)?;
     let product = first.times(field, element)?;
     Ok(product)

@@ -41,7 +41,7 @@ impl Rows for Grid {
 fn vector(alloc: Global, field: &Field, terms: &[(u32, u8)]) -> Result<Sparse, Memory>
     ensures { IfOk result (λ v. IsReduced ◌<◌ field.now v) }
 {
-    let _prime = field.prime();
+    field.has_prime();
     let mut v = Sparse::zero(alloc);
     for (id, coef) in terms {
         let unit = Sparse::unit(alloc, *id);
@@ -85,7 +85,7 @@ fn table_of(alloc: Global, field: &Field, rows: &[&[(u32, u8)]]) -> Result<Grid,
 fn element(alloc: Global, field: &Field, terms: &[(u8, &[u8])]) -> Result<FreeAlg, PresFault>
     ensures { IfOk result (λ r. IsReduced ShortlexLetters field.now r) }
 {
-    let _prime = field.prime();
+    field.has_prime();
     let mut sum = FreeAlg::zero(alloc);
     for (coef, letters) in terms {
         let mut product = FreeAlg::constant(alloc, field, field.reduce(u128::from(*coef)))?;
@@ -105,7 +105,7 @@ type Terms = &'static [(u8, &'static [u8])];
 fn module_element(alloc: Global, field: &Field, parts: &[(u8, Terms)]) -> Result<FreeMod, PresFault>
     ensures { IfOk result (λ q. IsReduced Shortlex field.now q) }
 {
-    let _prime = field.prime();
+    field.has_prime();
     let mut sum = FreeMod::zero(alloc);
     for (root, terms) in parts {
         let part = FreeMod::root(alloc, *root)?.times(field, &element(alloc, field, terms)?)?;
@@ -198,7 +198,7 @@ fn tied_generators_traced(rt: HostRuntime) -> Result<(), Fail> {
 fn ones(alloc: Global, field: &Field, count: u32) -> Result<Sparse, Memory>
     ensures { IfOk result (λ v. IsReduced ◌<◌ field.now v) }
 {
-    let _prime = field.prime();
+    field.has_prime();
     let mut v = Sparse::zero(alloc);
     for id in 0..count {
         v.add_scaled(field, 1, &Sparse::unit(alloc, id))?;
