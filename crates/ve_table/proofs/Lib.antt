@@ -14,6 +14,7 @@ pub mod Killing
 pub mod LiveIds
 pub mod AllLive
 pub mod Dropping
+pub mod NothingDead
 pub mod Renumbering
 -- ---- levels
 pub mod Opening

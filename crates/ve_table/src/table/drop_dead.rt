@@ -19,6 +19,9 @@ impl Table {
         ensures err { OnErr result (self.new ≡ self.old) }
         ensures sound { IsSound self.new }
     {
+        if self.live == self.id_count() {
+            return Ok(());
+        }
         let letters = self.presentation.weights().len();
         let numbers = new_numbers(&self.entries)?;
         keep_live_rows(&mut self.rows, &self.entries, letters);

@@ -6,6 +6,7 @@ use Rattle.ve_theory.specs.Presentations.{letter_count}
 use Rattle.ve_vec.specs.Vectors.{numbered}
 use Rattle.ve_table.specs.Sound.{IsSound, NamesLiveIds}
 use Rattle.ve_table.specs.Changes.{without_dead}
+use Rattle.ve_table.specs.Tables.{ActionTable}
 use Rattle.ve_table.specs.Kept.{table_of}
 use Rattle.ve_table.specs.Rows.{AreBounds, AreLiveRows}
 use Rattle.ve_table.specs.Steps.{HasRisingReaches}
@@ -13,8 +14,14 @@ use Rattle.ve_table.specs.declared.entry.Entry.{Entry}
 use Rattle.ve_table.specs.Numbers.{is_live_entry, new_numbers, CanNumber, CanNumberEntry}
 use Rattle.ve_table.proofs.Entries.{tabled}
 use Rattle.ve_table.proofs.Dropping.{sound_dropped}
+use Rattle.ve_table.proofs.NothingDead.{nothing_dropped}
 use Rattle.ve_table.proofs.Renumbering.{can_number_entries, can_number_rows, can_number_images, renumbered_rows, live_rows, AreDropped, dropped_entries, entries_within, dropped_view, dropped_rises, kept_dropped}
 use Rattle.ve_table.proofs.table.Table.drop_dead.Goals as goal
+
+pub returns-then-self-id_count-clause-ok : goal.returns-then-self-id_count-clause-ok
+returns-then-self-id_count-clause-ok c =
+    rw (← c.self.view_is)
+    (sym (nothing_dropped (table_of c.self.inside) c.self.invariant.sound (sym c.self.invariant.live_count ∙ c.if-self-id_count.true ∙ c.id_count.ensures ∙ sym (ap (λ (T : ActionTable). length T.words) c.self.view_is))))
 
 pub renumber_entries-requires : goal.renumber_entries-requires
 renumber_entries-requires c =
