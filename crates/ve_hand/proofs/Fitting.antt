@@ -1,17 +1,24 @@
 -- Hands over a field stay so.
-use Rattle.std.proofs.Common.{◌≡◌, ℕ, zero, suc, ◌<◌, None, Some, List, [], ◌∷◌, All, refl, ap, ◌∙◌, arith}
+use Rattle.std.proofs.Common.{◌≡◌, ℕ, zero, suc, ◌<◌, None, Some, List, [], ◌∷◌, All, map, refl, sym, ap, subst, ◌∙◌, arith}
 use Rattle.std.specs.Prelude.{Option, slice_get, slice_index_or, unwrap_or}
-use Rattle.std.proofs.lemmas.List.Elements.{All-cons, All-head, All-nil, All-tail}
-use Rattle.ve_theory.specs.Combinations.{unit, AllBefore, IsReduced}
+use Rattle.std.proofs.lemmas.List.Elements.{All-cons, All-get_or, All-head, All-map, All-nil, All-tail, All-weaker}
+use Rattle.ve_theory.specs.Combinations.{Combination, unit, AllBefore, IsReduced}
+use Rattle.ve_theory.specs.Words.{letters, start, Shortlex, ShortlexLetters}
+use Rattle.ve_theory.specs.Elements.{AlgebraElement}
+use Rattle.ve_theory.specs.Presentations.{relator, relators, submodule_relation}
 use Rattle.ve_theory.specs.Answers.{Row}
 use Rattle.ve_theory.proofs.Sums.{prime-large}
+use Rattle.ve_theory.proofs.RelatorReaches.{relators_reduced}
 use Rattle.ve_vec.specs.Tracing.{row_or_zero}
 use Rattle.ve_table.specs.Tables.{ActionTable, presented, row_at}
 use Rattle.ve_table.specs.Sound.{IsSound}
-use Rattle.ve_machine.specs.Hands.{Beginning, Found, Hand, Part, Reading, beginning_hand, begun_with, empty_hand, forward_found, from_forward, from_id, from_image, next_hand, none_found, read_forward, read_ids, read_image, row_found, summed_hand, tracing_hand, unread}
+use Rattle.ve_machine.specs.Seats.{Job, image_job, relator_job, submodule_job}
+use Rattle.ve_machine.specs.Hands.{Beginning, Found, Hand, Part, Reading, beginning_hand, begun_with, empty_hand, forward_found, from_forward, from_id, from_image, next_hand, none_found, parts_of, read_forward, read_ids, read_image, row_found, summed_hand, tracing_hand, unread}
 use Rattle.ve_machine.specs.HandSteps.{Applies, Repairs, begins_forward, begins_image, found_at, found_for, multiplies, read_for, read_hand, repairs_part, repairs_sum, sums}
 use Rattle.ve_hand.specs.Fits.{FitsFound, FitsHand, FitsPart, FitsReading}
-use Rattle.ve_hand.proofs.Reads.{of_table}
+use Rattle.ve_hand.specs.Jobs.{HasRelation}
+use Rattle.ve_hand.proofs.FromTables.{of_table}
+use Rattle.ve_hand.proofs.Residues.{residues_of}
 
 unit_fits : (p b : ℕ) → 1 < p → IsReduced ◌<◌ p (unit b)
 unfolding IsReduced AllBefore
@@ -41,14 +48,34 @@ next_fits p sum [] large sum_fits parts_fit = record { vector_fits = sum_fits; r
 next_fits p sum (part ∷ parts) large sum_fits parts_fit =
     begun_fits p sum part parts part.beginning large sum_fits (All-head (FitsPart p) part parts parts_fit) (All-tail (FitsPart p) part parts parts_fit)
 
+-- the parts of a job
+
+coefficients_fit : {K : Type 0} (before : K → K → Type 0) (p : ℕ) (f : K × ℕ → Part) (v : Combination K) → ((t : K × ℕ) → (f t).coefficient ≡ t.1) → IsReduced before p v → All (FitsPart p) (map f v)
+coefficients_fit {K} before p f v same reduced =
+    All-map (FitsPart p) f v (All-weaker (λ (t : K × ℕ). t.1 < p) (λ (t : K × ℕ). FitsPart p (f t)) (λ t residue. subst (λ n. n < p) (sym (same t)) residue) v (residues_of before p v reduced))
+
+pub job_fits : (T : ActionTable) (job : Job) → IsSound T → HasRelation T job → All (FitsPart (presented T).prime) (parts_of T job)
+job_fits T (relator_job b number) sound within =
+    coefficients_fit ShortlexLetters (presented T).prime (λ t. record { beginning = from_id b; letters = t.0; coefficient = t.1 }) (relator (presented T) number) (λ t. refl)
+    (All-get_or (λ (r : AlgebraElement). IsReduced ShortlexLetters (presented T).prime r) (relators (presented T)) number [] within (relators_reduced (presented T) sound.valid.presentation))
+job_fits T (submodule_job number) sound within =
+    coefficients_fit Shortlex (presented T).prime (λ t. record { beginning = from_image (start t.0); letters = letters t.0; coefficient = t.1 }) (submodule_relation (presented T) number) (λ t. refl)
+    (sound.valid.presentation.submodule number [] within).0
+job_fits T (image_job b x) sound within =
+    All-cons (FitsPart (presented T).prime) (record { beginning = from_forward b x; letters = x ∷ []; coefficient = 1 }) [] (prime-large (presented T).prime sound.valid.presentation.field) (All-nil (FitsPart (presented T).prime))
+
+pub job_hand_fits : (T : ActionTable) (job : Job) → IsSound T → HasRelation T job → FitsHand (presented T).prime (next_hand [] (parts_of T job))
+job_hand_fits T job sound has =
+    next_fits (presented T).prime [] (parts_of T job) (prime-large (presented T).prime sound.valid.presentation.field) (none_fits (presented T).prime) (job_fits T job sound has)
+
 -- reads
 
 module _ (T : ActionTable) (sound : IsSound T) where
   abbrev p : ℕ
   p = (presented T).prime
 
-  large : 1 < p
-  large = prime-large p sound.valid.presentation.field
+  prime_large : 1 < p
+  prime_large = prime-large p sound.valid.presentation.field
 
   forward_fits : (b : ℕ) (forward : Row) → slice_index_or T.forwards b None ≡ Some forward → IsReduced ◌<◌ p forward
   forward_fits b =
@@ -74,7 +101,7 @@ module _ (T : ActionTable) (sound : IsSound T) where
   image_fits i = at_or (IsReduced ◌<◌ p) T.images [] (none_fits p) (λ j v found. (sound.images j v found).stands.row.0) i
 
   stand_in_fits : (b : ℕ) (forward : Option Row) → slice_index_or T.forwards b None ≡ forward → IsReduced ◌<◌ p (unwrap_or forward (unit b))
-  stand_in_fits b None is = unit_fits p b large
+  stand_in_fits b None is = unit_fits p b prime_large
   stand_in_fits b (Some forward) is = forward_fits b forward is
 
   beginning_fits : (beginning : Beginning) → FitsReading p (read_for (of_table T) beginning)

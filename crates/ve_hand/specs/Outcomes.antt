@@ -1,5 +1,5 @@
 -- What comes of a call that repairs a hand or lets it go on.
-use Rattle.std.specs.Prelude.{◌≡◌, ℕ, ◌-◌, ◌<◌, All, Bool, false, true, List, nat_eq}
+use Rattle.std.specs.Prelude.{◌≡◌, ℕ, ◌-◌, ◌<◌, ◌++◌, All, Bool, false, true, List, None, Option, Some, nat_eq}
 use Rattle.ve_theory.specs.Combinations.{IsReducedOf, scaled}
 use Rattle.ve_theory.specs.Answers.{Row}
 use Rattle.ve_machine.specs.Hands.{Found, Hand, Reading, read_ids, unread}
@@ -48,3 +48,9 @@ MultipliesVector p old false new = (new ≡ old) × (¬ HasReadRows (reading_of 
 abbrev pub BeginsVector : (p : ℕ) → StartRead → Row → Type 0
 BeginsVector p (Image image) v = v ≡ image
 BeginsVector p (Forward row forward) v = IsReducedOf ◌<◌ nat_eq p v (scaled (p - 1) forward)
+
+-- the row that was read is added to the sum of the parts before
+abbrev pub SumsRead : (p : ℕ) → Option StartRead → Row → Row → Type 0
+SumsRead p None old new = new ≡ old
+SumsRead p (Some (Image image)) old new = new ≡ old
+SumsRead p (Some (Forward row forward)) old new = IsReducedOf ◌<◌ nat_eq p new (old ++ row)

@@ -1,6 +1,6 @@
 -- Terms of jobs, as contracts see them.
 use Rattle.std.specs.Prelude.{ℕ, List, map}
-use Rattle.ve_theory.specs.Words.{letters, start}
+use Rattle.ve_theory.specs.Words.{Word, letters, start}
 use Rattle.ve_theory.specs.Elements.{AlgebraElement, Element}
 use Rattle.ve_machine.specs.Hands.{Beginning as SeatBeginning, Part as SeatPart, from_forward, from_id, from_image}
 use Rattle.ve_hand.specs.declared.part.Beginning.{Beginning}
@@ -15,9 +15,15 @@ beginning_of (Forward id letter) = from_forward id letter
 abbrev pub part_of : Part → SeatPart
 part_of part = record { beginning = beginning_of part.beginning; letters = part.letters.items; coefficient = part.coef }
 
--- an algebra element's terms at an id, and those of a module element
+-- a term of an algebra element at an id, and one of a module element
+abbrev pub part_at_id : ℕ → List ℕ × ℕ → SeatPart
+part_at_id b t = record { beginning = from_id b; letters = t.0; coefficient = t.1 }
+
+abbrev pub part_of_image : Word × ℕ → SeatPart
+part_of_image t = record { beginning = from_image (start t.0); letters = letters t.0; coefficient = t.1 }
+
 abbrev pub parts_at_id : ℕ → AlgebraElement → List SeatPart
-parts_at_id b r = map (λ t. record { beginning = from_id b; letters = t.0; coefficient = t.1 }) r
+parts_at_id b r = map (part_at_id b) r
 
 abbrev pub parts_of_images : Element → List SeatPart
-parts_of_images q = map (λ t. record { beginning = from_image (start t.0); letters = letters t.0; coefficient = t.1 }) q
+parts_of_images q = map part_of_image q

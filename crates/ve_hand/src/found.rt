@@ -1,9 +1,10 @@
 //! What is read for the ids of a vector.
 
-ghost use Rattle.std.specs.Prelude.{◌≡◌, ◌↔◌, ℕ, List, All, IfOk, IsTrue, None, map, slice_get, slice_index_or};
-ghost use Rattle.ve_machine.specs.HandSteps.{HasForwards, IsRowFound, found_at, found_for};
+ghost use Rattle.std.specs.Prelude.{◌≡◌, ◌↔◌, ℕ, List, All, Any, IfOk, IsTrue, None, map, slice_get, slice_index_or};
+ghost use Rattle.std.specs.Option.{option_copied};
+ghost use Rattle.ve_machine.specs.HandSteps.{IsRowFound, found_at, found_for};
 ghost use Rattle.ve_machine.specs.Seats.{opened_state};
-ghost use Rattle.ve_hand.specs.Views.{found_of};
+ghost use Rattle.ve_hand.specs.Views.{IsForwardFound, and_then, forward_in, found_of, row_in};
 
 use crate::lookup::{copy_row, forward_of};
 use std::alloc::Global;
@@ -20,6 +21,38 @@ pub(crate) enum Found {
     Forward(Sparse),
     /// Nothing: it is live, and no letter is next.
     Nothing,
+}
+
+impl Found {
+    fn forward(&self) -> Option<&Sparse>
+        ensures { option_copied result ≡ forward_in (found_of self.now) }
+    {
+        match self {
+            Found::Forward(forward) => Some(forward),
+            Found::Row(_) | Found::Nothing => None,
+        }
+    }
+
+    fn row(&self) -> Option<&Sparse>
+        ensures { option_copied result ≡ row_in (found_of self.now) }
+    {
+        match self {
+            Found::Row(row) => Some(row),
+            Found::Forward(_) | Found::Nothing => None,
+        }
+    }
+
+    fn is_forward(&self) -> bool
+        ensures { IsTrue result ↔ IsForwardFound (found_of self.now) }
+    {
+        matches!(self, Found::Forward(_))
+    }
+
+    fn is_row(&self) -> bool
+        ensures { IsTrue result ↔ IsRowFound (found_of self.now) }
+    {
+        matches!(self, Found::Row(_))
+    }
 }
 
 /// Reads for each id of a vector, with the letter that is next.
@@ -55,16 +88,34 @@ fn look_up_id(alloc: Global, table: &Table, id: u32, letter: Option<u8>) -> Resu
 
 /// Whether some id is dead.
 pub(crate) fn has_forwards(founds: &[Found]) -> bool
-    ensures { IsTrue result ↔ HasForwards (map found_of founds.now) }
+    ensures { IsTrue result ↔ Any (λ found. IsForwardFound (found_of found)) founds.now }
 {
-    founds
-        .iter()
-        .any(|found| matches!(found, Found::Forward(_)))
+    founds.iter().any(|found| found.is_forward())
 }
 
 /// Whether a row was read for each id.
 pub(crate) fn has_rows_alone(founds: &[Found]) -> bool
-    ensures { IsTrue result ↔ All IsRowFound (map found_of founds.now) }
+    ensures { IsTrue result ↔ All (λ found. IsRowFound (found_of found)) founds.now }
 {
-    founds.iter().all(|found| matches!(found, Found::Row(_)))
+    founds.iter().all(|found| found.is_row())
+}
+
+/// The forward that was read for an id, where one was.
+pub(crate) fn forward_at(founds: &[Found], at: usize) -> Option<&Sparse>
+    ensures { option_copied result ≡ and_then (slice_get (map found_of founds.now) at) forward_in }
+{
+    match founds.get(at) {
+        Some(found) => found.forward(),
+        None => None,
+    }
+}
+
+/// The row that was read for an id, where one was.
+pub(crate) fn row_at(founds: &[Found], at: usize) -> Option<&Sparse>
+    ensures { option_copied result ≡ and_then (slice_get (map found_of founds.now) at) row_in }
+{
+    match founds.get(at) {
+        Some(found) => found.row(),
+        None => None,
+    }
 }

@@ -86,7 +86,8 @@ impl Hand {
         ensures fits { FitsHand (presented table.now).prime self.new }
     {
         table.is_sound();
-        self.stage.read(self.alloc, table)
+        self.stage.read(self.alloc, table)?;
+        Ok(())
     }
 
     /// Whether forwards were read.
@@ -111,7 +112,8 @@ impl Hand {
         ensures err { OnErr result (self.new ≡ self.old) }
         ensures fits { FitsHand field.now self.new }
     {
-        self.stage.repair(alloc, field)
+        let had = self.stage.repair(alloc, field)?;
+        Ok(had)
     }
 
     /// Goes on by what was read: begins a part, multiplies by a letter, or sums a part. Whether it was enough.
@@ -122,7 +124,9 @@ impl Hand {
         ensures err { OnErr result (self.new ≡ self.old) }
         ensures fits { FitsHand field.now self.new }
     {
-        self.stage.apply(alloc, field)
+        field.has_prime();
+        let had = self.stage.apply(alloc, field)?;
+        Ok(had)
     }
 
     /// The vector of a hand where all is summed.

@@ -15,6 +15,7 @@ use ve_word::Memory;
 pub(crate) fn forward_of(table: &Table, id: u32) -> Option<&Sparse>
     ensures { option_copied result ≡ slice_index_or table.now.forwards id None }
 {
+    table.is_sound();
     if id < table.id_count() {
         table.forward(id)
     } else {

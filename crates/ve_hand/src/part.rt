@@ -53,7 +53,7 @@ fn parts_from_id(alloc: Global, id: u32, relator: &FreeAlg) -> Result<VecDeque<P
     for at in 0..relator.term_count() {
         parts.push_back(Part {
             beginning: Beginning::Id(id),
-            letters: VecDeque::from_vec(relator.word_at(at).clone()?),
+            letters: queue_of(alloc, relator.word_at(at))?,
             coef: relator.coef_at(at),
         })?;
     }
@@ -69,11 +69,18 @@ fn parts_from_images(alloc: Global, relation: &FreeMod) -> Result<VecDeque<Part>
         let word = relation.word_at(at);
         parts.push_back(Part {
             beginning: Beginning::Image(word.root_of()),
-            letters: VecDeque::from_vec(word.spelling().clone()?),
+            letters: queue_of(alloc, word.spelling())?,
             coef: relation.coef_at(at),
         })?;
     }
     Ok(parts)
+}
+
+/// The letters in a list that gives its first one away.
+fn queue_of(alloc: Global, letters: &[u8]) -> Result<VecDeque<u8>, Memory>
+    ensures { IfOk result (λ queue. queue.items ≡ letters.now) }
+{
+    Ok(VecDeque::from_vec(Vec::from_slice(alloc, letters)?))
 }
 
 /// The one term of an image job.

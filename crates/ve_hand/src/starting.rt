@@ -1,10 +1,11 @@
 //! Hands where a part is to begin with what is read for it.
 
-ghost use Rattle.std.specs.Prelude.{◌≡◌, IfOk, IfSome, IfNone, None, OnErr, OnOk, Some};
+ghost use Rattle.std.specs.Prelude.{◌≡◌, ◌<◌, IfOk, IfSome, IfNone, None, OnErr, OnOk, Some};
+ghost use Rattle.ve_theory.specs.Combinations.{IsReduced};
 ghost use Rattle.ve_machine.specs.Seats.{opened_state};
 ghost use Rattle.ve_machine.specs.HandSteps.{Applies, read_for, read_hand};
 ghost use Rattle.ve_hand.specs.Fits.{FitsHand, FitsReading};
-ghost use Rattle.ve_hand.specs.Outcomes.{BeginsVector};
+ghost use Rattle.ve_hand.specs.Outcomes.{BeginsVector, SumsRead};
 ghost use Rattle.ve_hand.specs.Parts.{beginning_of};
 ghost use Rattle.ve_hand.specs.Views.{start_of, starting_of, tracing_of};
 
@@ -49,6 +50,20 @@ impl Starting {
         Ok(())
     }
 
+    /// Adds the row that was read to the sum of the parts before, where one was.
+    fn add_row(&mut self, field: &Field) -> Result<(), Memory>
+        requires sum { IsReduced ◌<◌ field.now self.old.sum }
+        requires read { FitsReading field.now (start_of self.old.read) }
+        ensures same { self.new ≡ record self.old { sum = self.new.sum } }
+        ensures ok { OnOk result (SumsRead field.now self.old.read self.old.sum self.new.sum) }
+        ensures err { OnErr result (self.new ≡ self.old) }
+    {
+        if let Some(read) = &self.read {
+            add_read_row(&mut self.sum, field, read)?;
+        }
+        Ok(())
+    }
+
     /// Begins the part with what was read for it, and `None` where nothing was.
     pub(crate) fn begin(&mut self, alloc: Global, field: &Field) -> Result<Option<Tracing>, Memory>
         requires { FitsHand field.now (starting_of self.old) }
@@ -56,9 +71,7 @@ impl Starting {
         ensures none { IfOk result (λ begun. IfNone begun ((self.new ≡ self.old) × (self.old.read ≡ None))) }
         ensures err { OnErr result (self.new ≡ self.old) }
     {
-        if let Some(StartRead::Forward { row, .. }) = &self.read {
-            self.sum.add_scaled(field, 1, row)?;
-        }
+        self.add_row(field)?;
         let Some(read) = self.read.take() else {
             return Ok(None);
         };
@@ -88,6 +101,20 @@ fn read_beginning(
             forward: copy_stand_in(alloc, table, id)?,
         })),
     }
+}
+
+/// Adds the row that was read, where it was of a dead id.
+fn add_read_row(sum: &mut Sparse, field: &Field, read: &StartRead) -> Result<(), Memory>
+    requires sum { IsReduced ◌<◌ field.now sum.old }
+    requires read { FitsReading field.now (start_of (Some read.now)) }
+    ensures ok { OnOk result (SumsRead field.now (Some read.now) sum.old sum.new) }
+    ensures err { OnErr result (sum.new ≡ sum.old) }
+{
+    field.has_prime();
+    if let StartRead::Forward { row, .. } = read {
+        sum.add_scaled(field, 1, row)?;
+    }
+    Ok(())
 }
 
 /// The vector that a part begins with: an image, or the negative of a forward.

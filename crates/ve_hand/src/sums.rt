@@ -6,7 +6,7 @@ ghost use Rattle.ve_machine.specs.HandSteps.{multiplied_by, repaired};
 ghost use Rattle.ve_hand.specs.Fits.{FitsFound};
 ghost use Rattle.ve_hand.specs.Views.{found_of};
 
-use crate::found::Found;
+use crate::found::{Found, forward_at, row_at};
 use std::alloc::Global;
 use ve_field::Field;
 use ve_vec::Sparse;
@@ -29,9 +29,9 @@ pub(crate) fn repaired_sum(
     let mut brought = Sparse::zero(alloc);
     for at in 0..vector.len() {
         let term = vector.term(at);
-        match founds.get(at) {
-            Some(Found::Forward(forward)) => brought.add_scaled(field, term.coef, forward)?,
-            _ => kept.add_scaled_term(field, 1, term)?,
+        match forward_at(founds, at) {
+            Some(forward) => brought.add_scaled(field, term.coef, forward)?,
+            None => kept.add_scaled_term(field, 1, term)?,
         }
     }
     kept.add_scaled(field, 1, &brought)?;
@@ -51,8 +51,9 @@ pub(crate) fn multiplied_sum(
 {
     let mut sum = Sparse::zero(alloc);
     for at in 0..vector.len() {
-        if let Some(Found::Row(row)) = founds.get(at) {
-            sum.add_scaled(field, vector.term(at).coef, row)?;
+        let term = vector.term(at);
+        if let Some(row) = row_at(founds, at) {
+            sum.add_scaled(field, term.coef, row)?;
         }
     }
     Ok(sum)
