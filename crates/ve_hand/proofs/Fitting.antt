@@ -13,7 +13,7 @@ use Rattle.ve_vec.specs.Tracing.{row_or_zero}
 use Rattle.ve_table.specs.Tables.{ActionTable, presented, row_at}
 use Rattle.ve_table.specs.Sound.{IsSound}
 use Rattle.ve_machine.specs.Seats.{Job, image_job, relator_job, submodule_job}
-use Rattle.ve_machine.specs.Hands.{Beginning, Found, Hand, Part, Reading, beginning_hand, begun_with, empty_hand, forward_found, from_forward, from_id, from_image, next_hand, none_found, parts_of, read_forward, read_ids, read_image, row_found, summed_hand, tracing_hand, unread}
+use Rattle.ve_machine.specs.Hands.{Beginning, Hand, Part, beginning_hand, begun_with, empty_hand, from_forward, from_id, from_image, next_hand, parts_of, summed_hand, tracing_hand}
 use Rattle.ve_machine.specs.HandSteps.{Applies, Repairs, begins_forward, begins_image, found_at, found_for, multiplies, read_for, read_hand, repairs_part, repairs_sum, sums}
 use Rattle.ve_hand.specs.Fits.{FitsFound, FitsHand, FitsPart, FitsReading}
 use Rattle.ve_hand.specs.Jobs.{HasRelation}

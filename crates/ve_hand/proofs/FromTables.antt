@@ -4,7 +4,7 @@ use Rattle.std.specs.Prelude.{Option, slice_index_or}
 use Rattle.ve_theory.specs.Answers.{Row}
 use Rattle.ve_table.specs.Tables.{ActionTable}
 use Rattle.ve_machine.specs.Seats.{State, opened_state, present}
-use Rattle.ve_machine.specs.Hands.{Beginning, Found, Hand, Part, beginning_hand, empty_hand, from_forward, from_id, from_image, read_ids, summed_hand, tracing_hand}
+use Rattle.ve_machine.specs.Hands.{Beginning, Found, Hand, beginning_hand, empty_hand, from_forward, from_id, from_image, read_ids, summed_hand, tracing_hand}
 use Rattle.ve_machine.specs.HandSteps.{found_at, found_for, read_for, read_hand}
 
 -- a state with the same table

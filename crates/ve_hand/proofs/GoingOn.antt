@@ -4,7 +4,7 @@ use Rattle.std.specs.Prelude.{◌↔◌}
 use Rattle.ve_theory.specs.Combinations.{scaled, IsReducedOf}
 use Rattle.ve_theory.specs.Answers.{Row}
 use Rattle.ve_theory.proofs.Sums.{SameWeights-refl}
-use Rattle.ve_machine.specs.Hands.{Found, Hand, Part, Reading, beginning_hand, next_hand, read_ids, summed_hand, tracing_hand, unread}
+use Rattle.ve_machine.specs.Hands.{Hand, Part, Reading, beginning_hand, next_hand, summed_hand, tracing_hand, unread}
 use Rattle.ve_machine.specs.HandSteps.{Applies, Repairs, begins_forward, begins_image, multiplies, repairs_part, repairs_sum, sums}
 use Rattle.ve_machine.specs.Allowed.{CanApply, CanRepair}
 use Rattle.ve_hand.specs.declared.read_vector.ReadVector.{ReadVector}

@@ -1,5 +1,5 @@
 -- Jobs, as contracts see them.
-use Rattle.std.specs.Prelude.{ℕ, ◌<◌, length}
+use Rattle.std.specs.Prelude.{◌<◌, length}
 use Rattle.ve_theory.specs.Presentations.{relators}
 use Rattle.ve_table.specs.Tables.{ActionTable, presented}
 use Rattle.ve_machine.specs.Seats.{Job as SeatJob, image_job, relator_job, submodule_job}

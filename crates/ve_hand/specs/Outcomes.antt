@@ -2,7 +2,7 @@
 use Rattle.std.specs.Prelude.{◌≡◌, ℕ, ◌-◌, ◌<◌, ◌++◌, All, Bool, false, true, List, None, Option, Some, nat_eq}
 use Rattle.ve_theory.specs.Combinations.{IsReducedOf, scaled}
 use Rattle.ve_theory.specs.Answers.{Row}
-use Rattle.ve_machine.specs.Hands.{Found, Hand, Reading, read_ids, unread}
+use Rattle.ve_machine.specs.Hands.{Found, Hand, read_ids, unread}
 use Rattle.ve_machine.specs.HandSteps.{Applies, HasForwards, IsRowFound, Repairs, multiplied_by, repaired}
 use Rattle.ve_machine.specs.Allowed.{CanApply, CanRepair, HasReadForwards, HasReadRows}
 use Rattle.ve_hand.specs.declared.starting.StartRead.{StartRead}

@@ -1,5 +1,5 @@
 -- What a hand holds, as contracts see it.
-use Rattle.std.specs.Prelude.{List, None, Option, Some, Vec, map}
+use Rattle.std.specs.Prelude.{None, Option, Some, Vec, map}
 use Rattle.std.specs.Global.{Global}
 use Rattle.ve_theory.specs.Answers.{Row}
 use Rattle.ve_machine.specs.Hands.{Found as SeatFound, Hand, Reading, beginning_hand, empty_hand, forward_found, none_found, read_forward, read_ids, read_image, row_found, summed_hand, tracing_hand, unread}

@@ -15,3 +15,6 @@ mod tracing;
 
 pub use hand::Hand;
 pub use job::Job;
+
+#[cfg(test)]
+mod tests;

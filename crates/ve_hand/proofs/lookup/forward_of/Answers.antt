@@ -1,5 +1,5 @@
-use Rattle.std.proofs.Common.{◌≡◌, ◌≤◌, None, length, sym, ap, ◌∙◌, arith}
-use Rattle.std.specs.Prelude.{Option, slice_get, unwrap_or}
+use Rattle.std.proofs.Common.{◌≤◌, None, length, sym, ap, ◌∙◌, arith}
+use Rattle.std.specs.Prelude.{Option, unwrap_or}
 use Rattle.std.proofs.lemmas.Option.{slice_get_past, unwrap_or-slice_get}
 use Rattle.ve_theory.specs.Answers.{Row}
 use Rattle.ve_hand.proofs.lookup.forward_of.Goals as goal

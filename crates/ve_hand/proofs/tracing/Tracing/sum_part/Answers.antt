@@ -1,5 +1,4 @@
-use Rattle.std.proofs.Common.{map, ap, ◌∙◌}
-use Rattle.ve_machine.specs.Hands.{next_hand}
+use Rattle.std.proofs.Common.{map}
 use Rattle.ve_hand.specs.Parts.{part_of}
 use Rattle.ve_hand.specs.Views.{reading_of, stage_of}
 use Rattle.ve_hand.proofs.GoingOn.{part_summed}
