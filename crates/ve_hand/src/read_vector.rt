@@ -1,5 +1,3 @@
-//! A vector with what was last read for its ids.
-
 ghost use Rattle.std.specs.Prelude.{◌≡◌, ◌<◌, ◌↔◌, ℕ, List, IfOk, IsTrue, None, OnErr, OnOk, slice_get};
 ghost use Rattle.ve_theory.specs.Combinations.{IsReduced};
 ghost use Rattle.ve_machine.specs.Seats.{opened_state};
@@ -18,6 +16,7 @@ use ve_table::Table;
 use ve_vec::Sparse;
 use ve_word::Memory;
 
+/// A vector, and what was last read for its ids.
 #[derive(Drop)]
 pub(crate) struct ReadVector {
     pub(crate) vector: Sparse,
@@ -49,8 +48,7 @@ impl ReadVector {
             → reading_of self.new ≡ read_ids (found_for (opened_state table.now 0) left self.old.vector)) }
         ensures err { OnErr result (self.new ≡ self.old) }
     {
-        let founds = look_up(alloc, table, &self.vector, letter)?;
-        self.founds = Some(founds);
+        self.founds = Some(look_up(alloc, table, &self.vector, letter)?);
         Ok(())
     }
 

@@ -1,5 +1,3 @@
-//! How far a job is.
-
 ghost use Rattle.std.specs.Prelude.{◌≡◌, ◌↔◌, IfOk, IsTrue, OnErr, OnOk, map};
 ghost use Rattle.ve_machine.specs.Seats.{opened_state};
 ghost use Rattle.ve_machine.specs.Hands.{next_hand};
@@ -21,6 +19,7 @@ use ve_table::Table;
 use ve_vec::Sparse;
 use ve_word::Memory;
 
+/// How far a job is traced.
 #[derive(Drop)]
 pub(crate) enum Stage {
     /// There is no job.
@@ -109,10 +108,9 @@ impl Stage {
 }
 
 /// The stage where the next part comes.
-pub(crate) fn next_stage(alloc: Global, sum: Sparse, parts: VecDeque<Part>) -> Stage
+pub(crate) fn next_stage(alloc: Global, sum: Sparse, mut parts: VecDeque<Part>) -> Stage
     ensures { stage_of result ≡ next_hand sum (map part_of parts.items) }
 {
-    let mut parts = parts;
     let Some(part) = parts.pop_front() else {
         return Stage::Summed(ReadVector::unread(sum));
     };

@@ -45,8 +45,7 @@ impl Starting {
         ensures ok { OnOk result (starting_of self.new ≡ read_hand (opened_state table.now 0) (starting_of self.old)) }
         ensures err { OnErr result (self.new ≡ self.old) }
     {
-        let read = read_beginning(alloc, table, self.part.beginning)?;
-        self.read = read;
+        self.read = read_beginning(alloc, table, self.part.beginning)?;
         Ok(())
     }
 
