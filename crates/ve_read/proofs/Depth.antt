@@ -2,9 +2,9 @@
 use Rattle.std.proofs.Common.{◌≡◌, ℕ, ◌+◌, ◌<◌, ◌≤◌, Bool, true, false, cond, List, [], ◌∷◌, ◌++◌, refl, sym, ap, ◌∙◌, arith}
 use Rattle.std.specs.Prelude.{count_by}
 use Rattle.std.specs.Int.{from_bool}
+use Rattle.std.proofs.lemmas.List.Sums.{sum_by-cons}
 use Rattle.ve_formats.specs.Tokens.{Token}
 use Rattle.ve_formats.specs.PresentationText.{is_sign, IsTooDeep, most_open}
-use Rattle.ve_formats.proofs.Depth.{one_if, count-cons}
 
 -- behind tokens with so many signs
 abbrev pub IsDeepBehind : (closed opened : ℕ) → List Token → Type 0
@@ -15,6 +15,13 @@ IsDeepBehind closed opened tokens =
 pub record AreAsDeep (all : List Token) (closed opened : ℕ) (rest : List Token) : Type 0 where
   pub whole : IsDeepBehind closed opened rest → IsTooDeep all
   pub rest_is : IsTooDeep all → IsDeepBehind closed opened rest
+
+one_if : ℕ → Token → ℕ
+one_if b t = cond (is_sign b t) 1 0
+
+count-cons : (b : ℕ) (t : Token) (tokens : List Token) → count_by (is_sign b) (t ∷ tokens) ≡ one_if b t + count_by (is_sign b) tokens
+unfolding one_if
+count-cons b t tokens = sum_by-cons (one_if b) t tokens
 
 pub deep_from_start : (all : List Token) → AreAsDeep all 0 0 all
 deep_from_start all = record {
