@@ -1,11 +1,11 @@
--- Levels are reached one after another, up to the one at which an enumeration ends.
+-- Endings exclude each other, and levels are reached one after another.
 use Rattle.std.proofs.Common.{◌≡◌, ℕ, zero, suc, ◌+◌, ◌*◌, ◌-◌, ◌<◌, ◌≤◌, ◌⊎◌, inl, inr, List, ◌∷◌, [], length, get_or, Contains, sym, ap, ◌∙◌, subst, refl, arith, length-append, mul-le-mul_left, mul-suc}
 use Rattle.std.proofs.lemmas.Bool.{cases_lt, cases_order}
 use Rattle.std.proofs.lemmas.List.{get_or_default}
 use Rattle.ve_theory.specs.Words.{Word, generator, times, letters, word_length}
 use Rattle.ve_theory.specs.Presentations.{Presentation, IsPresentation, reach, before, greatest_step, relator_bound, submodule_bound}
 use Rattle.ve_theory.specs.Levels.{IsNormal, Lists, HasSize, Closes, IsClosingLevel, FitsLimit, IsOutgrown, IsFinishedAt}
-use Rattle.ve_theory.specs.Laws.{OpenLevelsAreBounded}
+use Rattle.ve_theory.specs.Laws.{HasBounds, ListsAreUnique}
 use Rattle.ve_theory.proofs.Orders.{reach-times, step_positive, before_reach}
 use Rattle.ve_theory.proofs.LevelBounds.{IsNormal-prefix, reach_of_length}
 use Rattle.ve_pres.specs.Drafts.{Draft}
@@ -13,6 +13,75 @@ use Rattle.ve_table.specs.Tables.{ActionTable, presented}
 use Rattle.ve_table.specs.Changes.{opened}
 use Rattle.ve_machine.specs.Finished.{IsOpening}
 use Rattle.ve_levels.specs.Advancing.{IsNext, IsClosed, IsOver}
+
+-- ---- one ending alone
+
+-- a level that is outgrown, and a closing level within the limit
+pub never_both : ListsAreUnique → (P : Presentation) (limit k j n : ℕ) → IsPresentation P → IsFinishedAt P limit k → IsOutgrown P limit j n → ⊥
+never_both law P limit k j n V done over = cases (cases_lt k j)
+  where
+    cases : (k < j) ⊎ (j ≤ k) → ⊥
+    cases (inl before) = over.open_before k before done.closing.closes
+    cases (inr after) =
+        let fits = done.fits j after in
+        let same = law.sizes P j fits.0 n V fits.1 over.size in
+        let small = fits.2 in
+        let large = over.exceeds in
+        omega arith
+
+-- ---- how far levels reach
+
+-- a normal word stands in the list after all its prefixes
+place_of_normal : (P : Presentation) → IsPresentation P → (k : ℕ) (ws : List Word) → Lists P (IsNormal P k) ws → (w : Word) → IsNormal P k w → (h : Contains ws w) → word_length w ≤ h.0
+unfolding letters
+place_of_normal P V k ws L (generator i) N h = omega arith
+place_of_normal P V k ws L (times w x) N h =
+    let n : IsNormal P k w = IsNormal-prefix P k w x N in
+    let there : Contains ws w = L.every w n in
+    let earlier : length (letters w) ≤ there.0 = place_of_normal P V k ws L w n there in
+    let less : there.0 < h.0 = apart there (cases_lt there.0 h.0) in
+    omega (arith, length-append (letters w) (x ∷ []))
+  where
+    apart : (there : Contains ws w) → (there.0 < h.0) ⊎ (h.0 ≤ there.0) → there.0 < h.0
+    apart there (inl l) = l
+    apart there (inr l) = absurd (cases (cases_lt h.0 there.0))
+      where
+        a : get_or ws h.0 w ≡ times w x
+        a = get_or_default ws h.0 w (times w x) h.1 ∙ h.2
+
+        further : reach P w < reach P (times w x)
+        further = omega (arith, reach-times P w x, step_positive P V x)
+
+        cases : (h.0 < there.0) ⊎ (there.0 ≤ h.0) → ⊥
+        cases (inl m) =
+            let b : before P (get_or ws h.0 w) (get_or ws there.0 w) = L.rising h.0 there.0 w m there.1 in
+            let c : reach P (get_or ws h.0 w) ≤ reach P (get_or ws there.0 w) = before_reach P (get_or ws h.0 w) (get_or ws there.0 w) b in
+            omega (arith, ap (reach P) a, ap (reach P) there.2, further)
+        cases (inr m) =
+            let same : there.0 ≡ h.0 = omega arith in
+            omega (arith, ap (reach P) a, ap (reach P) there.2, ap (λ i. reach P (get_or ws i w)) same, further)
+
+-- a level that fits the limit, where none before it closes
+pub reached_level : (P : Presentation) → IsPresentation P → HasBounds P → (limit k : ℕ) → FitsLimit P limit k → ((j : ℕ) → j < k → Closes P j → ⊥)
+    → k < submodule_bound P + greatest_step P * limit + relator_bound P
+unfolding HasSize
+reached_level P V bounds limit zero fits open_before = let greatest = bounds.greatest in omega arith
+reached_level P V bounds limit (suc k) fits open_before = cases (cases_lt (suc k) (submodule_bound P + greatest_step P * limit + relator_bound P))
+  where
+    greatest : greatest_step P ≤ relator_bound P
+    greatest = bounds.greatest
+
+    cases : (suc k < submodule_bound P + greatest_step P * limit + relator_bound P) ⊎ (submodule_bound P + greatest_step P * limit + relator_bound P ≤ suc k)
+        → suc k < submodule_bound P + greatest_step P * limit + relator_bound P
+    cases (inl below) = below
+    cases (inr above) = absurd (open_before k (omega arith) (record {
+      submodule = omega (arith, above, greatest);
+      relators = λ w N.
+          let there : Contains fits.1.0 w = fits.1.1.every w N in
+          let place : word_length w ≤ there.0 = place_of_normal P V k fits.1.0 fits.1.1 w N there in
+          let few : suc (word_length w) ≤ limit = omega (arith, place, there.1, fits.1.2, fits.2) in
+          omega (arith, above, greatest, reach_of_length P w, mul-suc (greatest_step P) (word_length w), mul-le-mul_left (greatest_step P) few);
+    }))
 
 -- ---- the way up
 
@@ -55,19 +124,6 @@ next_level draft limit T done new reached same_draft same_level next =
         | inr earlier ↦ reached.fits j earlier
       ];
     }
-
--- a level that is left doesn't close, so it is not far up
-pub left_level : OpenLevelsAreBounded → (draft : Draft) (limit : ℕ) (T done new : ActionTable) → IsPresentation draft.presentation → IsReached draft limit T → done.draft ≡ T.draft → done.level ≡ T.level → IsNext done limit new
-    → T.level < submodule_bound draft.presentation + greatest_step draft.presentation * limit + relator_bound draft.presentation
-left_level bounded draft limit T done new V reached same_draft same_level next =
-    elim (bounded draft.presentation T.level fits.0 limit V fits.1 fits.2 stays_open) [ inl low ↦ omega (arith, low) | inr low ↦ omega (arith, low) ]
-  where
-    fits : FitsLimit draft.presentation limit T.level
-    fits = reached.fits T.level (omega arith)
-
-    stays_open : ¬ Closes draft.presentation T.level
-    stays_open closes =
-        next.is_open (subst (Closes (presented done)) (sym same_level) (subst (λ d. Closes d.presentation T.level) (sym (same_draft ∙ reached.same)) closes))
 
 pub closed_level : (draft : Draft) (limit : ℕ) (T done new : ActionTable) → IsReached draft limit T → done.draft ≡ T.draft → done.level ≡ T.level → IsClosed done new
     → (new.draft ≡ draft) × IsFinishedAt draft.presentation limit new.level

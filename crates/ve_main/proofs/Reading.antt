@@ -48,6 +48,15 @@ pub few_all : (old new : Input) (bytes : List ℕ) → TakesAll old new bytes �
 few_all old new bytes takes = takes_few takes.gives (let short = takes.short in omega arith)
 
 -- what stopped the reading stopped what is made of the text
+pub stops_reading : (Refuses : List ℕ → List ℕ → Type 0) (old new : Input) (stop : Stop) → StopsReading old new stop → StopsTakingText Refuses old new stop
+stops_reading Refuses old new Words h = h
+stops_reading Refuses old new TooLong h = h
+stops_reading Refuses old new (Refused message) h = absurd h
+stops_reading Refuses old new NoPresentation h = h
+stops_reading Refuses old new Source h = h
+stops_reading Refuses old new Output h = h
+stops_reading Refuses old new Memory h = h
+
 pub stops_text : (Refuses : List ℕ → List ℕ → Type 0) (old new : Input) (bytes : List ℕ) → TakesAll old new bytes → (stop : Stop) → StopsReadingText (Refuses bytes) stop
     → StopsTakingText Refuses old new stop
 stops_text Refuses old new bytes takes Words h = h

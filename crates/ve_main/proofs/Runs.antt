@@ -4,7 +4,7 @@ use Rattle.std.specs.Io.KnownBytes.{prepend_known}
 use Rattle.std.proofs.Common.{ap, sym, subst, ◌∙◌, inl, inr, arith, append-nil, length-append}
 use Rattle.ve_theory.specs.Presentations.{Presentation, IsPresentation}
 use Rattle.ve_theory.specs.Levels.{IsFinishedAt, IsOutgrown}
-use Rattle.ve_theory.specs.Laws.{EndingsExclude}
+use Rattle.ve_theory.specs.Laws.{ListsAreUnique}
 use Rattle.ve_theory.specs.Answers.{Answer, HasShape, MeetsRelations}
 use Rattle.ve_theory.specs.Verdicts.{Verdict, is_quotient, shape_differs, relator_fails, submodule_fails, basis_word_fails, IsVerdict}
 use Rattle.ve_port.specs.Source.{Input, Gives}
@@ -28,6 +28,7 @@ use Rattle.ve_main.specs.Stops.{status_of, message_of, stop_of_words}
 use Rattle.ve_main.specs.Refusals.{IsRefused}
 use Rattle.ve_main.specs.Claims.{IsClaim, IsCut, IsNoAnswer, IsNoClaim, no_presentation, no_answer, Judges, verdict_status}
 use Rattle.ve_main.specs.Ending.{most_input, TakesAll, TakesTooMany, TakesClaim, TakesPresentation, TakesFew, Refuses, StopsTakingText, StopsWriting, Streams, Calls, Performs, Finishes, Because, BecauseOf, IsDue, too_long, refused, finished, outgrown, shown, checked, made, not_made, IsServed, Tells}
+use Rattle.ve_main.proofs.Endings.{never_both}
 use Rattle.ve_main.proofs.Reading.{few_all}
 
 -- ---- the input
@@ -59,7 +60,7 @@ too_many old new text takes told =
 -- ---- what is due
 
 -- A text has one reading: it spells one presentation, which is valid, or is refused at one line for one cause. It is cut at one
--- place, and shows one answer, or is refused at one line. And an enumeration ends in one way.
+-- place, and shows one answer, or is refused at one line. And lists are unique.
 pub record IsReadOnce : Type 0 where
   pub same_presentation : (text : List ℕ) (P Q : Presentation) → Spells text P → Spells text Q → P ≡ Q
   pub same_refusal : (text : List ℕ) (line other : ℕ) (cause why : Cause) → IsRefusedAt text line cause → IsRefusedAt text other why → (line ≡ other) × (cause ≡ why)
@@ -69,7 +70,7 @@ pub record IsReadOnce : Type 0 where
   pub same_answer : (text : List ℕ) (A B : Answer) → ShowsAnswer text A → ShowsAnswer text B → A ≡ B
   pub same_line : (text : List ℕ) (line other : ℕ) → IsNoAnswerAt text line → IsNoAnswerAt text other → line ≡ other
   pub never_both_answers : (text : List ℕ) (A : Answer) (line : ℕ) → ShowsAnswer text A → IsNoAnswerAt text line → ⊥
-  pub endings : EndingsExclude
+  pub lists : ListsAreUnique
   pub words : WordsMeanOnce
 
 abbrev IsStatus : ℕ → List ℕ → ℕ → List ℕ → Type 0
@@ -255,7 +256,7 @@ module _ (once : IsReadOnce) (command : Command) (text : List ℕ) where
   due_finished P limit level has short spells done _ _ (outgrown {P = Q} {limit = bound} {level = k} {size = n} also _ reads over) =
       let same : IsOutgrown P limit k n = subst (λ R. IsOutgrown R limit k n) (once.same_presentation text Q P reads spells)
       (subst (λ b. IsOutgrown Q b k n) (same_limit command bound limit also has) over) in
-      absurd (once.endings.not_both P limit level k n (once.valid text P spells) done same)
+      absurd (never_both once.lists P limit level k n (once.valid text P spells) done same)
   due_finished P limit level has short spells done _ _ (shown _ _ _) = inl (refl, refl)
   due_finished P limit level has short spells done _ _ (checked _ checks _ _ _) = absurd (limit_never_checks command limit has checks)
   due_finished P limit level has short spells done _ _ (made _) = inl (refl, refl)
@@ -269,7 +270,7 @@ module _ (once : IsReadOnce) (command : Command) (text : List ℕ) where
   due_outgrown P limit level size has short spells over _ _ (finished {P = Q} {limit = bound} {level = k} also _ reads done) =
       let same : IsFinishedAt P limit k = subst (λ R. IsFinishedAt R limit k) (once.same_presentation text Q P reads spells)
       (subst (λ b. IsFinishedAt Q b k) (same_limit command bound limit also has) done) in
-      absurd (once.endings.not_both P limit k level size (once.valid text P spells) same over)
+      absurd (never_both once.lists P limit k level size (once.valid text P spells) same over)
   due_outgrown P limit level size has short spells over _ _ (outgrown _ _ _ _) = inl (refl, refl)
   due_outgrown P limit level size has short spells over _ _ (shown shows _ _) = absurd (limit_never_shows command limit has shows)
   due_outgrown P limit level size has short spells over _ _ (checked _ checks _ _ _) = absurd (limit_never_checks command limit has checks)

@@ -9,7 +9,7 @@ use ve_levels::{Advanced, Opened, advance, start};
 use ve_plain::close_level;
 use ve_pres::Presentation;
 use ve_settle::Finished;
-use ve_theory::levels::open_levels_are_bounded;
+use ve_theory::order::reaches_are_bounded;
 
 /// How an enumeration ends.
 #[derive(Drop)]
@@ -27,7 +27,7 @@ pub(crate) fn enumerate(alloc: Global, presentation: Presentation, limit: u32) -
     requires { limit ≤ most_limit }
     ensures { EndsIn presentation limit result }
 {
-    open_levels_are_bounded();
+    reaches_are_bounded();
     presentation.is_valid();
     let mut table = match start(alloc, presentation, limit) {
         Opened::Open(table) => table,

@@ -12,7 +12,7 @@ use std::alloc::Global;
 use ve_formats::{answers_are_read_once, spelled_is_valid, text_spells_once};
 use ve_port::{Sink, Source};
 use ve_read::texts_are_cut_once;
-use ve_theory::uniqueness::endings_exclude_each_other;
+use ve_theory::uniqueness::lists_are_unique;
 use ve_words::{Command, read_words, words_mean_once};
 
 /// Runs the command that the words of a command line ask for: reads its input from `source`, writes its text to `out` and
@@ -40,7 +40,7 @@ pub fn run_alone<S: Source, K: Sink, E: Sink>(
     texts_are_cut_once();
     answers_are_read_once();
     words_mean_once();
-    endings_exclude_each_other();
+    lists_are_unique();
     match execute(alloc, words, source, out) {
         Ok(status) => status,
         Err(stop) => {

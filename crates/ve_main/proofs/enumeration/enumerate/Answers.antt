@@ -1,7 +1,7 @@
 use Rattle.std.proofs.Common.{◌≡◌, ◌+◌, ◌*◌, ◌<◌, ◌≤◌, arith, refl, sym, ap, subst, ◌∙◌}
 use Rattle.ve_theory.specs.Presentations.{greatest_step, relator_bound, submodule_bound}
 use Rattle.ve_theory.specs.Levels.{FitsLimit}
-use Rattle.ve_main.proofs.Endings.{first_level, next_level, closed_level, over_level, outgrown_start, left_level}
+use Rattle.ve_main.proofs.Endings.{first_level, next_level, closed_level, over_level, outgrown_start, reached_level}
 use Rattle.ve_main.proofs.enumeration.enumerate.Goals as goal
 
 pub returns-in-Over : goal.returns-in-Over
@@ -29,8 +29,9 @@ returns-in-Over-advance c =
 
 pub levels-smaller : goal.levels-smaller
 levels-smaller c =
-    let below = left_level c.open_levels_are_bounded.ensures c.args.presentation c.args.limit c.levels.table c.in-Ok.finished c.in-Next.next c.is_valid.ensures.valid.presentation c.levels.invariant
-    c.in-Ok.ensures.finished.draft c.in-Ok.ensures.finished.level c.in-Next.ensures in
+    let P = c.args.presentation.presentation in
+    let reached = reached_level P c.is_valid.ensures.valid.presentation (c.reaches_are_bounded.ensures P c.is_valid.ensures.valid.presentation) c.args.limit c.levels.table.level
+    (c.levels.invariant.fits c.levels.table.level (omega arith)) c.levels.invariant.open_before in
     let above : c.in-Next.next.level ≡ c.in-Ok.finished.level + 1 = c.in-Next.ensures.level in
     let same : c.in-Ok.finished.level ≡ c.levels.table.level = c.in-Ok.ensures.finished.level in
     omega arith

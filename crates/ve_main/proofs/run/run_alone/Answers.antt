@@ -14,7 +14,7 @@ returns-in-Ok-clause-serves g c command text due message served is_due =
       same_answer = c.answers_are_read_once.ensures.same_answer;
       same_line = c.answers_are_read_once.ensures.same_line;
       never_both_answers = c.answers_are_read_once.ensures.never_both;
-      endings = c.endings_exclude_each_other.ensures;
+      lists = c.lists_are_unique.ensures;
       words = c.words_mean_once.ensures;
     } in
     told_status (finished_due once c.in-Ok.ensures.finished command text due message served is_due) (inl (Gains-nil _))
@@ -30,7 +30,7 @@ returns-in-Err-clause-serves g c command text due message served is_due =
       same_answer = c.answers_are_read_once.ensures.same_answer;
       same_line = c.answers_are_read_once.ensures.same_line;
       never_both_answers = c.answers_are_read_once.ensures.never_both;
-      endings = c.endings_exclude_each_other.ensures;
+      lists = c.lists_are_unique.ensures;
       words = c.words_mean_once.ensures;
     } in
     rw c.status.ensures
