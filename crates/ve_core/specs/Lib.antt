@@ -1,0 +1,5 @@
+pub mod Events
+pub mod Desks
+pub mod Dones
+pub mod Moving
+pub mod Kept
