@@ -1,8 +1,11 @@
 pub mod Tables
 pub mod Journals
 pub mod Relations
+pub mod Apart
 pub mod Keeping
 pub mod Moves
 pub mod Waiting
 pub mod Counting
 pub mod Opened
+pub mod Dones
+pub mod Keys

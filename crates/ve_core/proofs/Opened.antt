@@ -11,6 +11,8 @@ use Rattle.ve_machine.specs.Machines.{IsRightMachine, nowhere, opened_machine}
 use Rattle.ve_machine.specs.SharedLaws.{MachinesStayRight}
 use Rattle.ve_hand.specs.Fits.{FitsHand}
 use Rattle.ve_core.specs.declared.state.CoreState.TheInside.{Inside}
+use Rattle.ve_core.specs.Apart.{AreApart}
+use Rattle.ve_core.proofs.Apart.{apart_opened}
 use Rattle.ve_core.specs.Kept.{IsKept, death_of, machine_of}
 
 -- the fields at the beginning
@@ -42,4 +44,5 @@ opened_kept go t O seats sound packed is = record {
   right = subst IsRightMachine (sym (opened_is t O seats is)) (go O seats [] (opened_machine O seats) sound packed nowhere);
   table = is.table ∙ (λ i. record (sym is.opening i) { forwards = (sym is.table i).forwards; rows = (sym is.table i).rows });
   hands = subst (All (FitsHand (presented t.table).prime)) (sym is.hands) (All-replicate (FitsHand (presented t.table).prime) seats empty_hand tt);
+  apart = subst (λ done. AreApart done t.desks.items) (sym is.done) (subst (AreApart []) (sym is.desks) (apart_opened seats));
 }

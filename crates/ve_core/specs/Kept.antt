@@ -5,6 +5,7 @@ use Rattle.ve_machine.specs.Forwards.{Forwards, stand_in}
 use Rattle.ve_machine.specs.Seats.{Death, present}
 use Rattle.ve_machine.specs.Machines.{IsRightMachine, Machine}
 use Rattle.ve_hand.specs.Fits.{FitsHand}
+use Rattle.ve_core.specs.Apart.{AreApart}
 use Rattle.ve_core.specs.declared.entry.Entry.{Entry}
 use Rattle.ve_core.specs.declared.state.CoreState.TheInside.{Inside}
 
@@ -26,8 +27,9 @@ machine_of s = record {
   hands = s.hands.items;
 }
 
--- The machine is right, the table is the machine's, and all hands fit the field.
+-- The machine is right, the table is the machine's, and all hands fit the field. No job is on two desks, and none on a desk is done.
 pub record IsKept (s : Inside) : Type 0 where
   pub right : IsRightMachine (machine_of s)
   pub table : s.table ≡ present (machine_of s).shared
   pub hands : All (FitsHand (presented s.table).prime) s.hands.items
+  pub apart : AreApart s.done s.desks.items

@@ -2,17 +2,26 @@
 
 ghost use Rattle.std.specs.Prelude.{◌≡◌, ◌↔◌, [], ◌∷◌, Contains, IsTrue, OnErr, OnOk};
 ghost use Rattle.ve_hand.specs.Jobs.{job_of};
+ghost use Rattle.ve_core.specs.Dones.{job_of_key};
 
+use indexmap::IndexSet;
 use std::alloc::Global;
 use std::marker::Model;
 use ve_hand::Job;
 use ve_word::Memory;
 
-/// The jobs that are done, the last one first. A look-up goes over all of them: other machines are compared with this one, which does
-/// no large work.
+/// A job, as it is looked up.
+#[derive(Clone, Copy, PartialEq, Eq, Hash)]
+enum Key {
+    Relator { id: u32, number: u32 },
+    Sub { number: u32 },
+    Image { id: u32, letter: u8 },
+}
+
+/// The jobs that are done, the last one first.
 #[derive(Drop)]
 pub(crate) struct Done {
-    jobs: Vec<Job>,
+    keys: IndexSet<Key>,
 }
 
 impl Model for Done {
@@ -27,7 +36,7 @@ impl Model for Done {
 
     ghost use Rattle.ve_core.specs.Dones.{jobs_of};
 
-    ghost view = { λ done. jobs_of done.jobs.items };
+    ghost view = { λ done. jobs_of done.keys.keys };
 }
 
 impl Done {
@@ -35,32 +44,32 @@ impl Done {
         ensures { result ≡ [] }
     {
         Done {
-            jobs: Vec::new(alloc),
+            keys: IndexSet::new(alloc),
         }
     }
 
     pub(crate) fn contains(&self, job: Job) -> bool
         ensures { IsTrue result ↔ Contains self.now (job_of job) }
     {
-        for done in &self.jobs {
-            if is_same(*done, job) {
-                return true;
-            }
-        }
-        false
+        self.keys.contains(&key_of(job))
     }
 
     pub(crate) fn add(&mut self, job: Job) -> Result<(), Memory>
+        requires { ¬ Contains self.old (job_of job) }
         ensures ok { OnOk result (self.new ≡ job_of job ∷ self.old) }
         ensures err { OnErr result (self.new ≡ self.old) }
     {
-        self.jobs.push(job)?;
+        self.keys.insert(key_of(job))?;
         Ok(())
     }
 }
 
-fn is_same(one: Job, other: Job) -> bool
-    ensures { IsTrue result ↔ (one ≡ other) }
+fn key_of(job: Job) -> Key
+    ensures { job_of_key result ≡ job_of job }
 {
-    one == other
+    match job {
+        Job::Relator { id, number } => Key::Relator { id, number },
+        Job::Sub { number } => Key::Sub { number },
+        Job::Image { id, letter } => Key::Image { id, letter },
+    }
 }

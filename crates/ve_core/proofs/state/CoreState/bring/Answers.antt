@@ -9,6 +9,10 @@ use Rattle.ve_core.proofs.Keeping.{fit_but, kept_after, seat_has_hand}
 use Rattle.ve_core.proofs.Moves.{held, job_submitted}
 use Rattle.ve_core.proofs.state.CoreState.bring.Goals as goal
 
+pub add-requires : goal.add-requires
+add-requires c =
+    c.self.invariant.apart.undone c.args.seat (job_of c.args.job) (subst (λ (M : Machine). HasDesk M.shared c.args.seat (with_job (job_of c.args.job))) (sym c.self.view_is) c.requires.desk)
+
 pub invariant_of-self-2 : goal.invariant_of-self-2
 invariant_of-self-2 c =
     let on_desk : HasDesk (machine_of c.self.inside).shared c.args.seat (with_job (job_of c.args.job)) = subst (λ (M : Machine). HasDesk M.shared c.args.seat (with_job (job_of c.args.job))) (sym c.self.view_is) c.requires.desk in
