@@ -8,7 +8,8 @@ use Rattle.ve_table.proofs.Entries.{same_some}
 use Rattle.ve_machine.specs.Seats.{Desk, Job, State, empty_desk, with_job, with_relation}
 use Rattle.ve_machine.specs.SharedSteps.{CanTake}
 use Rattle.ve_machine.specs.Machines.{Event, Machine, Move, applies, deletes, drops, lifts, reads, repairs, returns_job, returns_relation, rewrites, submits, takes}
-use Rattle.ve_machine.proofs.SharedLists.{contains_first, set_here}
+use Rattle.ve_lemmas.proofs.Lists.{Contains-cons}
+use Rattle.ve_machine.proofs.SharedLists.{set_here}
 use Rattle.ve_core.specs.Apart.{AreApart}
 
 -- a desk is the one that was set, or was there
@@ -66,7 +67,7 @@ apart_taken S seat job can apart = record {
 
 apart_submitted : (done : List Job) (desks : List Desk) (seat : ℕ) (job : Job) → slice_get desks seat ≡ Some (with_job job) → AreApart done desks → AreApart (job ∷ done) (set desks seat empty_desk)
 apart_submitted done desks seat job on_desk apart = record {
-  undone = λ other j is found. undone other j is (at_desk desks seat other empty_desk (with_job j) is) (contains_first job done j found);
+  undone = λ other j is found. undone other j is (at_desk desks seat other empty_desk (with_job j) is) (Contains-cons job j done found);
   alone = (apart_without done desks seat empty_desk no_job apart).alone;
 }
   where

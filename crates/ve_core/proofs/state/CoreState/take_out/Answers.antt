@@ -3,7 +3,7 @@ use Rattle.ve_table.specs.Tables.{presented}
 use Rattle.ve_machine.specs.Seats.{HasDesk, empty_desk}
 use Rattle.ve_machine.specs.Covered.{IsRelation}
 use Rattle.ve_machine.specs.Machines.{Machine, to_lift}
-use Rattle.ve_machine.proofs.SharedLists.{all_here}
+use Rattle.ve_lemmas.proofs.Lists.{All-slice_get}
 use Rattle.ve_hand.specs.Fits.{FitsHand}
 use Rattle.ve_core.specs.Kept.{machine_of}
 use Rattle.ve_core.proofs.Keeping.{fit_but, kept_after, seat_has_hand}
@@ -22,7 +22,7 @@ invariant_of-self c =
     let within : c.args.place < length c.self.inside.queue.items = subst (λ (M : Machine). c.args.place < length M.shared.queue) (sym c.self.view_is) c.requires.queued in
     let queued : slice_get c.self.inside.queue.items c.args.place ≡ Some c.remove-relation.result = held c.self.inside.queue.items c.args.place c.remove-relation.result within c.remove-relation.ensures.value in
     let relation : IsRelation c.self.inside.opening.value c.remove-relation.result =
-    all_here (IsRelation c.self.inside.opening.value) c.self.inside.queue.items c.args.place c.remove-relation.result queued c.self.invariant.right.sound.queue in
+    All-slice_get (IsRelation c.self.inside.opening.value) c.self.inside.queue.items c.args.place c.remove-relation.result queued c.self.invariant.right.sound.queue in
     kept_after c.moves_go_right.ensures c.self.inside _ (to_lift c.args.seat c.args.place) c.self.invariant
     (relation_lifted c.self.inside c.self.invariant c.args.seat c.args.place c.remove-relation.result c.remove-relation.new.self.items c.with_relation.result c.of_relation.result idle queued c.remove-relation.ensures.items c.with_relation.ensures
     c.of_relation.ensures.value)
