@@ -1,15 +1,16 @@
 -- Sums over a span of ids, as numbers are added to and collected.
-use Rattle.std.proofs.Common.{◌≡◌, ℕ, zero, suc, ◌+◌, ◌*◌, ◌%◌, ◌<◌, ◌≤◌, cond, Bool, true, false, nat_eq, All, List, [], ◌∷◌, ◌++◌, length, drop, get_or, refl, sym, ap, subst, ◌∙◌, add-one, add-zero, append-nil, arith}
-use Rattle.std.proofs.Math.ListN.{set, replicate}
+use Rattle.std.proofs.Common.{◌≡◌, ℕ, zero, suc, ◌+◌, ◌*◌, ◌%◌, ◌<◌, ◌≤◌, cond, Bool, true, false, nat_eq, All, List, [], ◌∷◌, ◌++◌, length, drop, get_or, refl, sym, ap, subst, ◌∙◌, add-one, add-zero, append-nil, arith, eq-eqb}
+use Rattle.std.proofs.Math.ListN.{set, replicate, length-set}
 use Rattle.std.proofs.Math.Nat.{mod-mod, zero-mod}
 use Rattle.std.proofs.Math.Seq.{drop-cons}
-use Rattle.std.proofs.lemmas.List.{drop_all, map-append}
+use Rattle.std.proofs.lemmas.Bool.{cond-true}
+use Rattle.std.proofs.lemmas.List.{drop_all, get_or-set_same, map-append}
 use Rattle.std.proofs.lemmas.List.Elements.{All-head, All-tail}
 use Rattle.ve_theory.specs.Combinations.{Combination, scaled, coefficient, Alike, AllBefore, IsReduced, IsReducedOf}
 use Rattle.ve_vec.specs.declared.term.Term.{Term}
 use Rattle.ve_vec.specs.Spans.{AllBetween, spanned}
 use Rattle.ve_vec.specs.Terms.{pairs}
-use Rattle.ve_vec.proofs.Coefficients.{coefficient-append}
+use Rattle.ve_vec.proofs.Coefficients.{coefficient-append, coefficient-other}
 use Rattle.ve_vec.proofs.Joining.{IsReduced-join}
 use Rattle.ve_vec.proofs.Merging.{exchanged, at_key, at_key-add}
 
@@ -42,6 +43,48 @@ coefficient-set p low (n ∷ numbers) (suc at) m d e k within same =
     exchanged p (cond (nat_eq low k) n 0) (coefficient nat_eq (spanned (low + 1) (set numbers at m)) k) (rest + cond (nat_eq (low + suc at) k) d 0) _ _
     refl (omega arith)
     (coefficient-set p (low + 1) numbers at m d e k (omega arith) same ∙ ap (λ j. (rest + cond (nat_eq j k) d 0) % p) place)
+
+-- no key is below the first one
+coefficient-under : (low : ℕ) (numbers : List ℕ) (k : ℕ) → k < low → coefficient nat_eq (spanned low numbers) k ≡ 0
+unfolding coefficient spanned
+coefficient-under low [] k less = refl
+coefficient-under low (n ∷ numbers) k less = coefficient-other (low, n) (spanned (low + 1) numbers) k (omega (arith, less)) ∙ coefficient-under (low + 1) numbers k (omega (arith, less))
+
+-- each number is the coefficient of its key
+pub coefficient-spanned : (low : ℕ) (numbers : List ℕ) (at d k : ℕ) → low + at ≡ k → at < length numbers → coefficient nat_eq (spanned low numbers) k ≡ get_or numbers at d
+unfolding coefficient spanned
+coefficient-spanned low [] at d k place within = absurd (omega arith)
+coefficient-spanned low (n ∷ numbers) zero d k place within =
+    let here : low ≡ k = omega (arith, place) in
+    omega (arith, cond-true (nat_eq low k) n 0 (eq-eqb low k here), coefficient-under (low + 1) numbers k (omega (arith, here)))
+coefficient-spanned low (n ∷ numbers) (suc at) d k place within =
+    coefficient-other (low, n) (spanned (low + 1) numbers) k (omega (arith, place)) ∙ coefficient-spanned (low + 1) numbers at d k (omega (arith, place)) (omega (arith, within))
+
+-- a number is set to 0
+coefficient-cleared : (low : ℕ) (numbers : List ℕ) (at d k : ℕ) → at < length numbers
+    → coefficient nat_eq (spanned low numbers) k ≡ coefficient nat_eq (spanned low (set numbers at 0)) k + cond (nat_eq (low + at) k) (get_or numbers at d) 0
+unfolding coefficient spanned
+coefficient-cleared low [] at d k within = absurd (omega arith)
+coefficient-cleared low (n ∷ numbers) zero d k within = rw add-zero (omega (arith, nothing (nat_eq low k)))
+coefficient-cleared low (n ∷ numbers) (suc at) d k within =
+    let place : (low + 1) + at ≡ low + suc at = omega arith in
+    omega (arith, coefficient-cleared (low + 1) numbers at d k (omega (arith, within)), ap (λ j. cond (nat_eq j k) (get_or numbers at d) 0) place)
+
+pub nothing_left : (low : ℕ) (numbers : List ℕ) (at k : ℕ) → low + at ≡ k → at < length numbers → coefficient nat_eq (spanned low (set numbers at 0)) k ≡ 0
+nothing_left low numbers at k place within =
+    coefficient-spanned low (set numbers at 0) at 0 k place (rw length-set within) ∙ get_or-set_same numbers at 0 0 within
+
+-- the residue of a number is taken out
+pub residue_taken : (p q low : ℕ) (numbers : List ℕ) (at d id : ℕ) → q ≡ p → low + at ≡ id → at < length numbers
+    → Alike nat_eq p (spanned low numbers) ((id, get_or numbers at d % q) ∷ spanned low (set numbers at 0))
+unfolding coefficient
+residue_taken p q low numbers at d id same place within = λ k.
+    let number : ℕ = get_or numbers at d in
+    let rest : ℕ = coefficient nat_eq (spanned low (set numbers at 0)) k in
+    exchanged p rest (cond (nat_eq id k) number 0) (cond (nat_eq id k) (number % q) 0) _ _
+    (coefficient-cleared low numbers at d k within ∙ ap (λ j. rest + cond (nat_eq j k) number 0) place)
+    (omega arith)
+    (at_key p (nat_eq id k) number (number % q) (sym (ap (λ m. (number % m) % p) same ∙ mod-mod number p)))
 
 -- what is summed up, with the terms that are left
 pub record Summing (p low by : ℕ) (numbers : List ℕ) (left : List Term) (e : Combination ℕ) : Type 0 where

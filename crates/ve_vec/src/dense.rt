@@ -1,8 +1,8 @@
 //! Sums of many vectors over a span of ids.
 
-ghost use Rattle.std.specs.Prelude.{◌≡◌, ℕ, ◌+◌, ◌*◌, ◌%◌, ◌^◌, ◌<◌, ◌≤◌, ◌++◌, [], All, IfOk, length, nat_eq};
+ghost use Rattle.std.specs.Prelude.{◌≡◌, ℕ, ◌+◌, ◌*◌, ◌%◌, ◌^◌, ◌<◌, ◌≤◌, ◌∷◌, ◌++◌, [], All, IfOk, IsTrue, length, nat_eq};
 ghost use Rattle.ve_theory.specs.Residues.{Congruent};
-ghost use Rattle.ve_theory.specs.Combinations.{Alike, IsReducedOf, scaled};
+ghost use Rattle.ve_theory.specs.Combinations.{Alike, IsReducedOf, coefficient, scaled};
 ghost use Rattle.ve_vec.specs.Spans.{AllBetween, spanned};
 ghost use Rattle.ve_vec.specs.Terms.{pairs};
 
@@ -56,6 +56,31 @@ impl DenseSum {
         ensures sum { Alike nat_eq field.now self.new.total (self.old.total ++ scaled by vector.now) }
     {
         add_terms(&mut self.numbers, self.low, field, by, vector.terms());
+    }
+
+    /// Whether nothing stands at an id. What adds up to a multiple of the prime may still count as something.
+    pub fn is_empty_at(&self, id: u32) -> bool
+        requires low { self.now.low ≤ id }
+        requires high { id ≤ self.now.high }
+        ensures { IsTrue result → coefficient nat_eq self.now.total id ≡ 0 }
+    {
+        self.numbers[(id - self.low) as usize] == 0
+    }
+
+    /// Takes the coefficient at an id away.
+    pub fn take(&mut self, field: &Field, id: u32) -> u8
+        requires low { self.old.low ≤ id }
+        requires high { id ≤ self.old.high }
+        ensures low { self.new.low ≡ self.old.low }
+        ensures high { self.new.high ≡ self.old.high }
+        ensures residue { result < field.now }
+        ensures sum { Alike nat_eq field.now self.old.total ((id, result) ∷ self.new.total) }
+        ensures gone { coefficient nat_eq self.new.total id ≡ 0 }
+    {
+        let at = (id - self.low) as usize;
+        let coef = (self.numbers[at] % u32::from(field.prime())) as u8;
+        self.numbers[at] = 0;
+        coef
     }
 
     /// The sum as a vector.
