@@ -1,5 +1,5 @@
 -- Tables without dead ids.
-use Rattle.std.proofs.Common.{◌≡◌, ℕ, ◌<◌, ◌+◌, not, inl, inr, true, false, cond, ltb, map, ap₂, Some, None, List, [], ◌∷◌, length, get_or, refl, sym, ap, ◌∙◌, arith}
+use Rattle.std.proofs.Common.{◌≡◌, ℕ, ◌<◌, ◌+◌, not, inl, inr, true, false, cond, ltb, ap₂, Some, None, List, [], ◌∷◌, length, get_or, refl, sym, ap, ◌∙◌, arith}
 use Rattle.std.specs.Prelude.{Option, All, nat_lt, position, slice_get}
 use Rattle.std.specs.Option.{is_none, is_some}
 use Rattle.std.specs.List.{position_or_len}
@@ -12,6 +12,8 @@ use Rattle.std.proofs.lemmas.List.Sums.{count_by-le-length, fails_before_first}
 use Rattle.ve_theory.specs.Answers.{Row}
 use Rattle.ve_table.specs.Tables.{ActionTable, IsLive, live_words}
 use Rattle.ve_table.specs.declared.entry.Entry.{Entry}
+use Rattle.ve_table.specs.Deaths.{is_dead_entry, forward_of, forwards_of}
+use Rattle.ve_table.proofs.Deaths.{is_some-forward}
 use Rattle.ve_table.specs.Sound.{IsSound, NamesLiveIds}
 use Rattle.ve_table.proofs.Dropping.{live_count}
 use Rattle.ve_table.proofs.LiveIds.{alive, alive-none, alive-some}
@@ -64,11 +66,11 @@ live_before fs i b found lt =
     let at = position-Some is_some fs i None found in
     slice_get-get_or fs b None (omega (arith, lt, at.0)) ∙ ap Some (not_some (get_or fs b None) (at.2 b lt))
 
-first_from : (es : List Entry) → position_or_len (λ (e : Entry). is_some e.forward) es ≡ position_or_len is_some (map (λ (e : Entry). e.forward) es)
-first_from [] = refl
-first_from (e ∷ es) = ap (λ n. cond (not (is_some e.forward)) (1 + n) 0) (first_from es)
+first_from : (fs : List Row) (es : List Entry) → position_or_len is_dead_entry es ≡ position_or_len is_some (forwards_of fs es)
+first_from fs [] = refl
+first_from fs (e ∷ es) = ap₂ (λ b n. cond (not b) (1 + n) 0) (sym (is_some-forward fs e.death)) (first_from fs es)
 
-pub first_is : (entries es : List Entry) (first : Option ℕ) → entries ≡ es → first ≡ position (λ (e : Entry). is_some e.forward) entries → first ≡ position is_some (map (λ (e : Entry). e.forward) es)
-first_is entries es first same is =
-    is ∙ ap (position (λ (e : Entry). is_some e.forward)) same
-    ∙ ap₂ (λ n m. cond (ltb n m) (Some n) None) (first_from es) (sym (length-map es (λ (e : Entry). e.forward)))
+pub first_is : (fs : List Row) (entries es : List Entry) (first : Option ℕ) → entries ≡ es → first ≡ position is_dead_entry entries → first ≡ position is_some (forwards_of fs es)
+first_is fs entries es first same is =
+    is ∙ ap (position is_dead_entry) same
+    ∙ ap₂ (λ n m. cond (ltb n m) (Some n) None) (first_from fs es) (sym (length-map es (λ (e : Entry). forward_of fs e.death)))

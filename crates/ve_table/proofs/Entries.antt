@@ -13,6 +13,7 @@ use Rattle.ve_table.specs.Books.{words_of}
 use Rattle.ve_table.specs.Rows.{listed}
 use Rattle.ve_table.specs.Kept.{IsKept, IsEntryOf, table_of}
 use Rattle.ve_table.specs.Rows.{AreBounds}
+use Rattle.ve_table.specs.Deaths.{forward_of, forwards_of}
 use Rattle.ve_table.specs.Sound.{IsSound}
 use Rattle.ve_table.proofs.Listed.{row_in, Agree, AreBelow, listed_agrees, listed_are_below, listed_below, listed_past, listed_bounded, no_id}
 use Rattle.ve_table.specs.declared.entry.Entry.{Entry}
@@ -20,7 +21,7 @@ use Rattle.ve_table.specs.declared.table.Table.TheInside.{Inside}
 
 -- there are as many entries as words
 pub one_entry_each : (t : Inside) → IsKept t → length t.entries.items ≡ length (table_of t).words
-one_entry_each t kept = sym (length-map t.entries.items (λ (e : Entry). e.forward)) ∙ kept.sound.one_forward_each
+one_entry_each t kept = sym (length-map t.entries.items (λ (e : Entry). forward_of t.forwards.items e.death)) ∙ kept.sound.one_forward_each
 
 pub has_entry : (t : Inside) → IsKept t → (b : ℕ) → IsId (table_of t) b → b < length t.entries.items
 has_entry t kept b id = omega (arith, id, one_entry_each t kept)
@@ -32,19 +33,19 @@ entry_here t kept b e id e_is = slice_get-get_or t.entries.items b e (has_entry 
 pub entry_of : (t : Inside) → IsKept t → (b : ℕ) (e : Entry) → IsId (table_of t) b → e ≡ get_or t.entries.items b e → IsEntryOf (table_of t) b e
 entry_of t kept b e id e_is = kept.entries b e (entry_here t kept b e id e_is)
 
-pub forward_here : (t : Inside) (b : ℕ) (e : Entry) → slice_get t.entries.items b ≡ Some e → slice_get (table_of t).forwards b ≡ Some e.forward
-forward_here t b e e_is = slice_get-map (λ (e : Entry). e.forward) t.entries.items b ∙ ap (option_map (λ (e : Entry). e.forward)) e_is
+pub forward_here : (t : Inside) (b : ℕ) (e : Entry) → slice_get t.entries.items b ≡ Some e → slice_get (table_of t).forwards b ≡ Some (forward_of t.forwards.items e.death)
+forward_here t b e e_is = slice_get-map (λ (e : Entry). forward_of t.forwards.items e.death) t.entries.items b ∙ ap (option_map (λ (e : Entry). forward_of t.forwards.items e.death)) e_is
 
 pub same_some : {X : Type 0} (a b : X) → Some a ≡ Some b → a ≡ b
 same_some a b same = ap (λ o. unwrap_or o a) same
 
 -- the table of lists
-abbrev pub tabled : Draft → ℕ → List Row → List ℕ → List Row → List Entry → ActionTable
-tabled draft level images bounds rows items = record {
+abbrev pub tabled : Draft → ℕ → List Row → List ℕ → List Row → List Row → List Entry → ActionTable
+tabled draft level images bounds rows forwards items = record {
   draft = draft;
   level = level;
   words = words_of (map (λ (e : Entry). e.origin) items);
-  forwards = map (λ (e : Entry). e.forward) items;
+  forwards = forwards_of forwards items;
   rows = listed (letter_count draft.presentation) (length items) bounds rows;
   images = images;
 }

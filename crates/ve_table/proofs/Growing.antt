@@ -16,6 +16,7 @@ use Rattle.ve_table.specs.declared.birth.Birth.{Birth}
 use Rattle.ve_table.specs.Books.{IsOriginOf}
 use Rattle.ve_table.specs.Rows.{with_births_from}
 use Rattle.ve_table.specs.Growth.{entry_of_birth}
+use Rattle.ve_table.specs.Deaths.{forward_of, forwards_of}
 use Rattle.ve_table.proofs.Listed.{row_in, Agree, set_agrees, push_agrees}
 use Rattle.ve_table.proofs.Opening.{no_row}
 use Rattle.ve_table.proofs.Merging.{contains_later, first_before, rest_rises}
@@ -163,8 +164,10 @@ module _ (reach : ℕ) (bs : List Birth) (es : List Entry) where
   abbrev pub after_births : List Entry
   after_births = es ++ map (entry_of_birth reach es) bs
 
-  pub born_forwards : map (λ (e : Entry). e.forward) after_births ≡ map (λ (e : Entry). e.forward) es ++ map (λ _. None) bs
-  born_forwards = map-append (λ (e : Entry). e.forward) es (map (entry_of_birth reach es) bs) ∙ ap (λ l. map (λ (e : Entry). e.forward) es ++ l) (map_map (entry_of_birth reach es) (λ (e : Entry). e.forward) bs)
+  pub born_forwards : (fs : List Row) → forwards_of fs after_births ≡ forwards_of fs es ++ map (λ _. None) bs
+  born_forwards fs =
+      map-append (λ (e : Entry). forward_of fs e.death) es (map (entry_of_birth reach es) bs)
+      ∙ ap (λ l. forwards_of fs es ++ l) (map_map (entry_of_birth reach es) (λ (e : Entry). forward_of fs e.death) bs)
 
   pub born_origins : map (λ (e : Entry). e.origin) after_births ≡ map (λ (e : Entry). e.origin) es ++ map origin_of bs
   born_origins = map-append (λ (e : Entry). e.origin) es (map (entry_of_birth reach es) bs) ∙ ap (λ l. map (λ (e : Entry). e.origin) es ++ l) (map_map (entry_of_birth reach es) (λ (e : Entry). e.origin) bs)

@@ -1,6 +1,7 @@
 -- The fields of a table that grows by a level.
 use Rattle.std.proofs.Common.{◌≡◌, ℕ, ◌+◌, ◌*◌, ◌<◌, ◌≤◌, ◌^◌, ◌-◌, ◌⊎◌, inl, inr, Some, None, List, [], ◌++◌, length, map, max, get_or, refl, sym, ap, ap₂, subst, ◌∙◌, arith}
 use Rattle.std.specs.Prelude.{Option, All, slice_get, sum_by}
+use Rattle.std.specs.Vec.{vec_capacity}
 use Rattle.std.proofs.Math.Nat.{mul-le-mul_right}
 use Rattle.std.proofs.lemmas.Bool.{cases_lt}
 use Rattle.std.proofs.lemmas.Option.{slice_get_within, slice_get-get_or, slice_get-map, get_or_from_slice_get}
@@ -28,6 +29,7 @@ use Rattle.ve_table.specs.Steps.{HasRisingReaches}
 use Rattle.ve_table.specs.Kept.{table_of, IsEntryOf, IsKept}
 use Rattle.ve_table.specs.Births.{IsWeightedBook, AreBirths}
 use Rattle.ve_table.specs.Growth.{CanDefine, entry_of_birth}
+use Rattle.ve_table.proofs.Deaths.{keeps_as, keeps_live, no_forwards, no_deaths}
 use Rattle.ve_table.proofs.Entries.{tabled, one_entry_each, rows_agree, rows_below, below_due, zero_past}
 use Rattle.ve_table.proofs.Listed.{Agree, AreBelow, place_below, listed_is}
 use Rattle.ve_table.proofs.Stepping.{rising_entries}
@@ -72,15 +74,16 @@ next_births t kept level bs level_is are = record {
 -- further places change nothing that is seen
 
 pub same_view : (t : Inside) → IsKept t → (rows : List Row) → ((k : ℕ) → get_or rows k [] ≡ get_or t.rows.items k [])
-    → tabled t.presentation t.level t.images.items t.bounds.items rows t.entries.items ≡ table_of t
+    → tabled t.presentation t.level t.images.items t.bounds.items rows t.forwards.items t.entries.items ≡ table_of t
 same_view t kept rows same =
     ap (λ (r : List (List (Option Row))). record (table_of t) { rows = r })
     (listed_is (letter_count t.presentation.presentation) (length t.entries.items) t.bounds.items rows (table_of t).rows (kept.sound.one_row_list_each ∙ sym (one_entry_each t kept)) kept.sound.one_place_each
     (λ b x letter. same (b * letter_count t.presentation.presentation + x) ∙ rows_agree t kept b x letter) (rows_below t))
 
 pub kept_with_room : (t u : Inside) → IsKept t → length u.rows.items ≤ length t.entries.items * letter_count t.presentation.presentation → length t.rows.items ≤ length u.rows.items → ((k : ℕ) → get_or u.rows.items k [] ≡ get_or t.rows.items k [])
-    → u.bounds.items ≡ t.bounds.items → u.entries.items ≡ t.entries.items → u.presentation ≡ t.presentation → table_of u ≡ table_of t → u.live ≡ t.live → AreReaches t.presentation.presentation u.reaches → IsKept u
-kept_with_room t u kept few more same_rows bounds entries presentation same live reaches = record {
+    → u.bounds.items ≡ t.bounds.items → u.entries.items ≡ t.entries.items → u.presentation ≡ t.presentation → table_of u ≡ table_of t → u.live ≡ t.live → u.forwards.items ≡ t.forwards.items
+    → length t.entries.items ≤ vec_capacity u.forwards → AreReaches t.presentation.presentation u.reaches → IsKept u
+kept_with_room t u kept few more same_rows bounds entries presentation same live forwards room reaches = record {
   sound = subst IsSound (sym same) kept.sound;
   entries = λ b e found. subst (λ U. IsEntryOf U b e) (sym same) (kept.entries b e (subst (λ l. slice_get l b ≡ Some e) entries found));
   count = omega (arith, kept.count, ap length entries);
@@ -93,6 +96,7 @@ kept_with_room t u kept few more same_rows bounds entries presentation same live
   one_bound_each = ap length bounds ∙ kept.one_bound_each ∙ sym letters;
   bounds = subst (λ (bs : List ℕ). All (λ bound. bound ≤ length u.entries.items) bs) (sym bounds) (subst (λ l. All (λ bound. bound ≤ length l) t.bounds.items) (sym entries) kept.bounds);
   live_count = live ∙ kept.live_count ∙ ap (λ U. length (live_words U)) (sym same);
+  own_forwards = keeps_as t.entries.items u.entries.items t.live u.live t.forwards u.forwards kept.own_forwards entries live forwards room;
   own_reaches = subst (λ d. AreReaches d.presentation u.reaches) (sym presentation) reaches;
 }
   where
@@ -200,6 +204,18 @@ module _ (t : Inside) (bs : List Birth) (step : IsStep t bs) where
   pub ids_fit : length es + length bs ≤ next_count T
   ids_fit = births_within t step.kept bs step.live step.births
 
+  -- nothing stands for any id
+  all_counted : t.live ≡ length es
+  all_counted = step.kept.live_count ∙ ap length (all_words_live t step.kept step.live) ∙ words_counted
+
+  all_alive : t.forwards.items ≡ []
+  all_alive = no_forwards es t.live t.forwards step.kept.own_forwards all_counted
+
+  deaths : All (λ (e : Entry). e.death ≡ 0) born
+  deaths =
+      All-append (λ (e : Entry). e.death ≡ 0) es (map (entry_of_birth (t.level + 1) es) bs) (no_deaths es t.live t.forwards step.kept.own_forwards all_counted)
+      (All-map (λ (e : Entry). e.death ≡ 0) (entry_of_birth (t.level + 1) es) bs (λ k d lt. refl))
+
   grown_origin : (c : ℕ) (o : Origin) → slice_get (map (λ (e : Entry). e.origin) born) c ≡ Some o → IsOriginOf (T.words ++ map (born_word T) bs) c o (get_or (T.words ++ map (born_word T) bs) c (generator 0))
   grown_origin c o found = at (slice_join (map (λ (e : Entry). e.origin) es) (map origin_of bs) c o (subst (λ l. slice_get l c ≡ Some o) (born_origins (t.level + 1) bs es) found))
     where
@@ -288,16 +304,16 @@ module _ (t : Inside) (bs : List Birth) (step : IsStep t bs) where
     units_below : AreBelow n (length born) news (with_births T bs).rows
     units_below = below_due (with_births T bs) born news (step_sound grow bounds) count_after entry_grown are
 
-    pub step_view : (units : List Row) (gs : List Entry) → units ≡ with_births_from n (length es) rows bs → gs ≡ born → tabled t.presentation (t.level + 1) t.images.items news units gs ≡ with_births T bs
-    step_view units gs units_are gs_are =
+    pub step_view : (units forwards : List Row) (gs : List Entry) → units ≡ with_births_from n (length es) rows bs → forwards ≡ [] → gs ≡ born → tabled t.presentation (t.level + 1) t.images.items news units forwards gs ≡ with_births T bs
+    step_view units forwards gs units_are none gs_are =
         let sound = step_sound grow bounds in
         let same : listed n (length born) news (with_births_from n (length es) rows bs) ≡ (with_births T bs).rows =
         listed_is n (length born) news (with_births_from n (length es) rows bs) (with_births T bs).rows (sound.one_row_list_each ∙ sym count_after) sound.one_place_each units_agree units_below in
-        rw (units_are, gs_are, grown_words, born_forwards (t.level + 1) bs es, same) refl
+        rw (units_are, none ∙ sym all_alive, gs_are, grown_words, born_forwards (t.level + 1) bs es t.forwards.items, same) refl
 
     pub step_kept : (u : Inside) → next_count T < 2 ^ 32 → u.rows.items ≡ with_births_from n (length es) rows bs → u.bounds.items ≡ news → u.entries.items ≡ born → table_of u ≡ with_births T bs → u.presentation ≡ t.presentation
-        → u.live ≡ t.live + length bs → u.reaches ≡ t.reaches → IsKept u
-    step_kept u few units_are news_are entries_are same presentation live reaches = record {
+        → u.live ≡ t.live + length bs → u.forwards.items ≡ [] → vec_capacity u.forwards ≡ length es + length bs → u.reaches ≡ t.reaches → IsKept u
+    step_kept u few units_are news_are entries_are same presentation live none room reaches = record {
       sound = subst IsSound (sym same) (step_sound grow bounds);
       entries = λ b e found. subst (λ U. IsEntryOf U b e) (sym same) (entry_grown b e (subst (λ l. slice_get l b ≡ Some e) entries_are found));
       count = omega (arith, ap length entries_are, count_born (t.level + 1) bs es, ids_fit, few);
@@ -315,6 +331,9 @@ module _ (t : Inside) (bs : List Birth) (step : IsStep t bs) where
       one_bound_each = ap length news_are ∙ are.count ∙ step.kept.sound.valid.presentation.one_weight_each ∙ sym letters;
       bounds = subst (λ (ks : List ℕ). All (λ bound. bound ≤ length u.entries.items) ks) (sym news_are) (subst (λ l. All (λ bound. bound ≤ length l) news) (sym entries_are) are.within);
       live_count = live ∙ live_grown T bs t.live step.live step.kept.sound.one_forward_each step.kept.live_count ∙ ap (λ U. length (live_words U)) (sym same);
+      own_forwards =
+          keeps_live u.entries.items u.live u.forwards (subst (All (λ (e : Entry). e.death ≡ 0)) (sym entries_are) deaths) none
+          (omega (arith, live, all_counted, ap length entries_are, count_born (t.level + 1) bs es)) (omega (arith, room, ap length entries_are, count_born (t.level + 1) bs es));
       own_reaches = subst (λ d. AreReaches d.presentation u.reaches) (sym presentation) (subst (λ r. AreReaches t.presentation.presentation r) (sym reaches) step.kept.own_reaches);
     }
       where

@@ -1,16 +1,17 @@
 -- A live id dies.
-use Rattle.std.proofs.Common.{◌≡◌, ℕ, zero, suc, ◌-◌, ◌⊎◌, inl, inr, Some, None, List, [], ◌∷◌, length, map, get_or, refl, ap, subst, ◌∙◌, arith}
+use Rattle.std.proofs.Common.{◌≡◌, ℕ, zero, suc, ◌-◌, ◌⊎◌, inl, inr, Some, None, List, [], ◌∷◌, ◌++◌, length, map, get_or, refl, ap, subst, ◌∙◌, arith}
 use Rattle.std.specs.Prelude.{Option, slice_get}
 use Rattle.std.proofs.Math.ListN.{set}
 use Rattle.std.proofs.Math.Seq.{map-set_same}
-use Rattle.std.proofs.lemmas.List.{length-set, map-set}
+use Rattle.std.proofs.lemmas.List.{length-set}
 use Rattle.ve_theory.specs.Words.{Word}
 use Rattle.ve_theory.specs.Answers.{Row}
-use Rattle.ve_pres.specs.Drafts.{Draft}
 use Rattle.ve_table.specs.Tables.{ActionTable, IsLive, of_live, live_words}
 use Rattle.ve_table.specs.Sound.{IsSound, IsForwardOf, StandsFor}
 use Rattle.ve_table.specs.Changes.{with_forward}
-use Rattle.ve_table.specs.Kept.{IsEntryOf}
+use Rattle.ve_table.specs.Kept.{IsEntryOf, IsKept, table_of}
+use Rattle.ve_table.specs.declared.table.Table.TheInside.{Inside}
+use Rattle.ve_table.proofs.Deaths.{forwards_killed}
 use Rattle.ve_table.proofs.Entries.{same_some, tabled}
 use Rattle.ve_table.specs.declared.entry.Entry.{Entry}
 
@@ -36,13 +37,13 @@ one_less (None ∷ forwards) (x ∷ xs) (suc b) v same live = ap suc (one_less f
 one_less (Some w ∷ forwards) (x ∷ xs) (suc b) v same live = one_less forwards xs b v (omega (arith, same)) live
 
 -- the table with another forward at an id
-pub killed : (draft : Draft) (level : ℕ) (images : List Row) (bounds : List ℕ) (rows : List Row) (items : List Entry) (b : ℕ) (e d : Entry) (v : Row) → e ≡ get_or items b d
-    → tabled draft level images bounds rows (set items b (record e { forward = Some v })) ≡ with_forward (tabled draft level images bounds rows items) b v
-killed draft level images bounds rows items b e d v e_is =
-    let new : Entry = record e { forward = Some v } in
-    let same_origins : map (λ (e : Entry). e.origin) (set items b new) ≡ map (λ (e : Entry). e.origin) items =
-    map-set_same (λ (e : Entry). e.origin) items b new d (ap (λ (e : Entry). e.origin) e_is) in
-    rw (same_origins, length-set items b new, map-set (λ (e : Entry). e.forward) items b new) refl
+pub killed : (t : Inside) → IsKept t → (b : ℕ) (e d : Entry) (v : Row) (death : ℕ) (forwards : List Row) → e ≡ get_or t.entries.items b d → forwards ≡ t.forwards.items ++ v ∷ [] → death ≡ suc (length t.forwards.items)
+    → tabled t.presentation t.level t.images.items t.bounds.items t.rows.items forwards (set t.entries.items b (record e { death = death })) ≡ with_forward (table_of t) b v
+killed t kept b e d v death forwards e_is forwards_are death_is =
+    let new : Entry = record e { death = death } in
+    let same_origins : map (λ (e : Entry). e.origin) (set t.entries.items b new) ≡ map (λ (e : Entry). e.origin) t.entries.items =
+    map-set_same (λ (e : Entry). e.origin) t.entries.items b new d (ap (λ (e : Entry). e.origin) e_is) in
+    rw (same_origins, length-set t.entries.items b new, forwards_are, forwards_killed t.forwards.items v t.entries.items b new kept.own_forwards.deaths death_is) refl
 
 -- a table with one more dead id is sound
 pub sound_killed : (T : ActionTable) (b : ℕ) (v : Row) → IsSound T → IsForwardOf T b v → IsSound (with_forward T b v)

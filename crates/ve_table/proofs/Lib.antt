@@ -10,12 +10,14 @@ pub mod Units
 pub mod Stepping
 pub mod Bounding
 -- ---- dead ids
+pub mod Deaths
 pub mod Killing
 pub mod LiveIds
 pub mod AllLive
 pub mod Dropping
 pub mod NothingDead
 pub mod Renumbering
+pub mod Unmoved
 -- ---- levels
 pub mod Opening
 pub mod Producing

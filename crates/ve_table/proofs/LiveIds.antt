@@ -1,15 +1,16 @@
 -- Live ids and their new numbers.
-use Rattle.std.proofs.Common.{◌≡◌, ℕ, zero, suc, ◌+◌, ◌<◌, ◌≤◌, ◌⊎◌, inl, inr, cond, Some, None, List, [], ◌∷◌, length, map, take, get_or, refl, sym, ap, ◌∙◌, arith}
-use Rattle.std.specs.Prelude.{Option, count_by, filter, slice_get}
+use Rattle.std.proofs.Common.{◌≡◌, ℕ, zero, suc, ◌+◌, ◌<◌, ◌≤◌, ◌⊎◌, inl, inr, cond, Some, None, List, [], ◌∷◌, length, map, take, get_or, refl, sym, ap, ap₂, ◌∙◌, arith}
+use Rattle.std.specs.Prelude.{Option, count_by, filter, nat_eq, slice_get}
 use Rattle.std.specs.Option.{is_none}
-use Rattle.std.proofs.lemmas.Bool.{cases_lt}
+use Rattle.std.proofs.lemmas.Bool.{cases_lt, cond-false}
 use Rattle.std.proofs.lemmas.List.{length-map}
 use Rattle.std.proofs.lemmas.List.Sums.{sum_by-cons}
 use Rattle.std.proofs.lemmas.Option.{none-some}
 use Rattle.ve_theory.specs.Answers.{Row}
 use Rattle.ve_table.specs.Tables.{of_live}
 use Rattle.ve_table.specs.declared.entry.Entry.{Entry}
-use Rattle.ve_table.specs.Numbers.{is_live_entry}
+use Rattle.ve_table.specs.Deaths.{is_live_entry, forward_of, forwards_of}
+use Rattle.ve_table.proofs.Deaths.{not_zero, is_none-forward}
 use Rattle.ve_table.proofs.Entries.{same_some}
 
 -- how many are live
@@ -77,22 +78,24 @@ number_reflects fs a b live lt = by (cases_lt a b)
         again (inr le) = not_same (omega (arith, past, le))
 
 -- the entries of live ids
-pub live_filter : {X : Type 0} (g : Entry → X) (es : List Entry) → of_live (map (λ (e : Entry). e.forward) es) (map g es) ≡ map g (filter is_live_entry es)
+pub live_filter : {X : Type 0} (g : Entry → X) (fs : List Row) (es : List Entry) → of_live (forwards_of fs es) (map g es) ≡ map g (filter is_live_entry es)
 unfolding of_live
-live_filter g [] = refl
-live_filter g (e ∷ es) = by e.forward (live_filter g es)
+live_filter g fs [] = refl
+live_filter g fs (e ∷ es) = by e.death (live_filter g fs es)
   where
-    by : (f : Option Row) → of_live (map (λ (e : Entry). e.forward) es) (map g es) ≡ map g (filter is_live_entry es)
-        → of_live (f ∷ map (λ (e : Entry). e.forward) es) (g e ∷ map g es) ≡ map g (cond (is_none f) (e ∷ filter is_live_entry es) (filter is_live_entry es))
-    by None rest = ap (λ l. g e ∷ l) rest
-    by (Some v) rest = rest
+    by : (death : ℕ) → of_live (forwards_of fs es) (map g es) ≡ map g (filter is_live_entry es)
+        → of_live (forward_of fs death ∷ forwards_of fs es) (g e ∷ map g es) ≡ map g (cond (nat_eq death 0) (e ∷ filter is_live_entry es) (filter is_live_entry es))
+    by zero rest = ap (λ l. g e ∷ l) rest
+    by (suc place) rest = rest ∙ ap (map g) (sym (cond-false (nat_eq (suc place) 0) (e ∷ filter is_live_entry es) (filter is_live_entry es) (not_zero place)))
 
-pub alive_filter : (es : List Entry) → length (filter is_live_entry es) ≡ alive (map (λ (e : Entry). e.forward) es)
-alive_filter es =
-    sym (length-map (filter is_live_entry es) (λ (e : Entry). e)) ∙ ap length (sym (live_filter (λ (e : Entry). e) es))
-    ∙ length-of_live (map (λ (e : Entry). e.forward) es) (map (λ (e : Entry). e) es) (omega (arith, length-map es (λ (e : Entry). e.forward), length-map es (λ (e : Entry). e)))
+pub alive_filter : (fs : List Row) (es : List Entry) → length (filter is_live_entry es) ≡ alive (forwards_of fs es)
+alive_filter fs es =
+    sym (length-map (filter is_live_entry es) (λ (e : Entry). e)) ∙ ap length (sym (live_filter (λ (e : Entry). e) fs es))
+    ∙ length-of_live (forwards_of fs es) (map (λ (e : Entry). e) es) (omega (arith, length-map es (λ (e : Entry). forward_of fs e.death), length-map es (λ (e : Entry). e)))
 
 -- counted over entries or over forwards
-pub alive_entries : (es : List Entry) → count_by is_live_entry es ≡ alive (map (λ (e : Entry). e.forward) es)
-alive_entries [] = refl
-alive_entries (e ∷ es) = sum_by-cons (λ (e : Entry). cond (is_live_entry e) 1 0) e es ∙ ap (λ n. cond (is_none e.forward) 1 0 + n) (alive_entries es) ∙ sym (sum_by-cons (λ (f : Option Row). cond (is_none f) 1 0) e.forward (map (λ (e : Entry). e.forward) es))
+pub alive_entries : (fs : List Row) (es : List Entry) → count_by is_live_entry es ≡ alive (forwards_of fs es)
+alive_entries fs [] = refl
+alive_entries fs (e ∷ es) =
+    sum_by-cons (λ (e : Entry). cond (is_live_entry e) 1 0) e es ∙ ap₂ (λ b n. cond b 1 0 + n) (sym (is_none-forward fs e.death)) (alive_entries fs es)
+    ∙ sym (sum_by-cons (λ (f : Option Row). cond (is_none f) 1 0) (forward_of fs e.death) (forwards_of fs es))

@@ -1,7 +1,7 @@
 -- Rows of live ids are moved together.
-use Rattle.std.proofs.Common.{◌≡◌, ℕ, ◌+◌, ◌*◌, ◌<◌, ◌≤◌, inl, inr, true, false, cond, Some, None, List, [], length, take, get_or, refl, sym, ap, ◌∙◌, arith}
-use Rattle.std.specs.Prelude.{count_by, slice_get}
-use Rattle.std.specs.Option.{is_none}
+use Rattle.std.proofs.Common.{◌≡◌, ℕ, zero, suc, ◌+◌, ◌*◌, ◌<◌, ◌≤◌, inl, inr, true, false, cond, Some, List, [], length, take, get_or, refl, sym, ap, ◌∙◌, arith}
+use Rattle.std.specs.Prelude.{count_by, nat_eq, slice_get}
+use Rattle.std.specs.List.{AllWithin}
 use Rattle.std.proofs.Math.Nat.{mul-le-mul_right}
 use Rattle.std.proofs.lemmas.Bool.{cases_eq}
 use Rattle.std.proofs.lemmas.List.{length-take, get_or-take, take_all, take-take}
@@ -9,8 +9,9 @@ use Rattle.std.proofs.lemmas.List.Sums.{count_by_more_yes, count_by_more_no, sum
 use Rattle.std.proofs.lemmas.Option.{slice_get_within, get_or_from_slice_get}
 use Rattle.ve_theory.specs.Answers.{Row}
 use Rattle.ve_table.specs.declared.entry.Entry.{Entry}
-use Rattle.ve_table.specs.Numbers.{is_live_entry}
+use Rattle.ve_table.specs.Deaths.{is_live_entry}
 use Rattle.ve_table.specs.Rows.{AreLiveRows, AreMoved}
+use Rattle.ve_table.proofs.Deaths.{no_entry}
 use Rattle.ve_table.proofs.Listed.{place_below}
 
 -- how many of the first ids are live
@@ -22,17 +23,17 @@ pub record IsSoFar (n : ℕ) (es : List Entry) (old now : List Row) (i k : ℕ) 
   pub kept_is : k ≡ live_before es i
   pub kept_few : k ≤ i
   pub count : length now ≡ length old
-  pub done : (b x : ℕ) (e : Entry) → b < i → slice_get es b ≡ Some e → e.forward ≡ None → x < n → get_or now (live_before es b * n + x) [] ≡ get_or old (b * n + x) []
+  pub done : (b x : ℕ) (e : Entry) → b < i → slice_get es b ≡ Some e → e.death ≡ 0 → x < n → get_or now (live_before es b * n + x) [] ≡ get_or old (b * n + x) []
   pub rest : (j : ℕ) → i * n ≤ j → get_or now j [] ≡ get_or old j []
 
-live_of : (e : Entry) → e.forward ≡ None → is_live_entry e ≡ true
-live_of e live = ap is_none live
+live_of : (e : Entry) → e.death ≡ 0 → is_live_entry e ≡ true
+live_of e live = ap (λ n. nat_eq n 0) live
 
 pub no_more : (es : List Entry) (a b : ℕ) → a ≤ b → live_before es a ≤ live_before es b
 no_more es a b le = let fewer = sum_by-take-le (λ e. cond (is_live_entry e) 1 0) (take b es) a in let same : live_before (take b es) a ≡ live_before es a = ap (count_by is_live_entry) (take-take a b es le) in omega (arith, fewer, same)
 
 -- a live id is below the later numbers
-below : (es : List Entry) (b i : ℕ) (e : Entry) → b < i → slice_get es b ≡ Some e → e.forward ≡ None → live_before es b < live_before es i
+below : (es : List Entry) (b i : ℕ) (e : Entry) → b < i → slice_get es b ≡ Some e → e.death ≡ 0 → live_before es b < live_before es i
 below es b i e lt found live =
     let within : b < length es = slice_get_within es b e found in
     let here : is_live_entry (get_or es b e) ≡ true = ap is_live_entry (get_or_from_slice_get es b e e found) ∙ live_of e live in
@@ -78,8 +79,24 @@ step_live n es old now new i k d so_far lt live moved = record {
 pub stays : (n i : ℕ) (rows : List Row) → AreMoved n i i rows rows
 stays n i rows = record { count = refl; moved = λ x letter. refl; below = λ k lt. refl; above = λ k le. refl }
 
-pub start : (n : ℕ) (es : List Entry) (rows : List Row) → IsSoFar n es rows rows 0 0
-start n es rows = record { kept_is = refl; kept_few = omega arith; count = refl; done = λ b x e lt. absurd (omega (arith, lt)); rest = λ j le. refl }
+-- the first ids are live
+pub all_kept : (es : List Entry) (least : ℕ) → least ≤ length es → AllWithin (λ (e : Entry). e.death ≡ 0) es 0 least → live_before es least ≡ least
+all_kept es zero le live = refl
+all_kept es (suc i) le live =
+    let here : is_live_entry (get_or es i no_entry) ≡ true = live_of (get_or es i no_entry) (live i no_entry (omega arith) (omega arith)) in
+    let more = count_by_more_yes is_live_entry es i no_entry (omega (arith, le)) here in
+    let rest = all_kept es i (omega (arith, le)) (λ k d low lt. live k d low (omega (arith, lt))) in
+    let next : live_before es (suc i) ≡ live_before es (i + 1) = ap (live_before es) (let e : suc i ≡ i + 1 = omega arith in e) in
+    omega (arith, next, more, rest)
+
+pub start : (n : ℕ) (es : List Entry) (rows : List Row) (least : ℕ) → least ≤ length es → AllWithin (λ (e : Entry). e.death ≡ 0) es 0 least → IsSoFar n es rows rows least least
+start n es rows least le live = record {
+  kept_is = sym (all_kept es least le live);
+  kept_few = omega arith;
+  count = refl;
+  done = λ b x e lt found is letter. ap (λ m. get_or rows (m * n + x) []) (all_kept es b (omega (arith, lt, le)) (λ k d low less. live k d low (omega (arith, lt, less))));
+  rest = λ j past. refl;
+}
 
 pub finish : (n : ℕ) (es : List Entry) (old now : List Row) (i k : ℕ) → IsSoFar n es old now i k → length es ≤ i → AreLiveRows n es old (take (k * n) now)
 finish n es old now i k so_far past = record {

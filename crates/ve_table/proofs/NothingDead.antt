@@ -15,7 +15,7 @@ use Rattle.ve_table.proofs.Dropping.{number_is}
 use Rattle.ve_table.proofs.LiveIds.{alive, alive-none}
 use Rattle.ve_table.proofs.Opening.{all_live, nones}
 
-all_alive : (fs : List (Option Row)) → All (λ f. f ≡ None) fs → alive fs ≡ length fs
+pub all_alive : (fs : List (Option Row)) → All (λ f. f ≡ None) fs → alive fs ≡ length fs
 all_alive [] all = refl
 all_alive (f ∷ fs) all = rw (All-head (λ (f : Option Row). f ≡ None) f fs all) (alive-none fs ∙ ap suc (all_alive fs (All-tail (λ (f : Option Row). f ≡ None) f fs all)))
 

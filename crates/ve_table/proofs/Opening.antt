@@ -3,6 +3,7 @@ use Rattle.std.proofs.Common.{◌≡◌, ℕ, zero, suc, ◌+◌, ◌*◌, ◌<�
 use Rattle.std.specs.Prelude.{Option, All, slice_get}
 use Rattle.std.specs.List.{range_with_len}
 use Rattle.std.specs.Option.{unwrap_or}
+use Rattle.std.specs.Vec.{vec_capacity}
 use Rattle.std.proofs.lemmas.Bool.{cases_lt}
 use Rattle.std.proofs.lemmas.Option.{slice_get_within, get_or_from_slice_get}
 use Rattle.std.proofs.lemmas.List.{length-map, map_push, get_or_past, get_or-map, append_assoc, append-nil}
@@ -26,9 +27,11 @@ use Rattle.ve_table.specs.Sound.{IsSound, IsImageOf}
 use Rattle.ve_table.specs.Changes.{opened}
 use Rattle.ve_table.specs.Kept.{table_of, IsEntryOf, IsKept}
 use Rattle.ve_table.specs.Rows.{listed}
+use Rattle.ve_table.specs.Deaths.{forward_of, forwards_of}
 use Rattle.ve_table.specs.Reaches.{AreReaches}
 use Rattle.ve_table.specs.declared.table.Table.TheInside.{Inside}
 use Rattle.ve_table.specs.Roots.{IsRootEntry, AreRoots}
+use Rattle.ve_table.proofs.Deaths.{keeps_live}
 use Rattle.ve_table.proofs.Entries.{tabled}
 use Rattle.ve_table.proofs.Listed.{row_in, listed_is}
 use Rattle.ve_table.proofs.Setting.{none_is_some}
@@ -72,14 +75,15 @@ no_row (i ∷ ids) names (suc b) x = no_row ids names b x
 zero_at : (bounds : List ℕ) (x : ℕ) → All (λ bound. bound ≡ 0) bounds → get_or bounds x 0 ≡ 0
 zero_at bounds x nothing = elim (cases_lt x (length bounds)) [ inl lt ↦ nothing x 0 lt | inr past ↦ get_or_past bounds x 0 past ]
 
-pub opened_is : (draft : Draft) (items : List Entry) (bounds : List ℕ) (rows images : List Row) → rows ≡ [] → All (λ bound. bound ≡ 0) bounds → AreRoots draft.presentation.generators items → images ≡ map unit (range_with_len 0 draft.presentation.generators)
-    → tabled draft 0 images bounds rows items ≡ opened draft
-opened_is draft items bounds rows images rows_are nothing are images_are =
+pub opened_is : (draft : Draft) (items : List Entry) (bounds : List ℕ) (rows forwards images : List Row) → rows ≡ [] → All (λ bound. bound ≡ 0) bounds → AreRoots draft.presentation.generators items → images ≡ map unit (range_with_len 0 draft.presentation.generators)
+    → tabled draft 0 images bounds rows forwards items ≡ opened draft
+opened_is draft items bounds rows forwards images rows_are nothing are images_are =
     let ids : List ℕ = range_with_len 0 draft.presentation.generators in
     let names = draft.presentation.names in
     let same : length items ≡ length ids = sym (length-map items (λ (e : Entry). e.origin)) ∙ ap length are.origins ∙ length-map ids Root in
     let words : words_of (map (λ (e : Entry). e.origin) items) ≡ map generator ids = ap words_of are.origins ∙ root_words [] ids in
-    let forwards : map (λ (e : Entry). e.forward) items ≡ map (λ _. None) ids = same_map (λ (e : Entry). e.forward) None items ids same (λ k d lt. (are.each k d lt).live) in
+    let live : forwards_of forwards items ≡ map (λ _. None) ids =
+    same_map (λ (e : Entry). forward_of forwards e.death) None items ids same (λ k d lt. ap (forward_of forwards) (are.each k d lt).live) in
     let lists : listed (length names) (length items) bounds [] ≡ map (λ _. map (λ _. None) names) ids =
     listed_is (length names) (length items) bounds [] (map no_rows ids) (length-map ids no_rows ∙ sym same)
     (All-map (λ (row : List (Option Row)). length row ≡ length names) no_rows ids (λ k d lt. length-map names empty))
@@ -88,7 +92,7 @@ opened_is draft items bounds rows images rows_are nothing are images_are =
       λ some. absurd (none_is_some (row_in (map no_rows ids) b x) (no_row ids names b x) some),
       λ lt. absurd (omega (arith, lt, zero_at bounds x nothing)),
     )) in
-    rw (words, forwards, rows_are, lists, images_are) refl
+    rw (words, live, rows_are, lists, images_are) refl
   where
     empty : List ℕ → Option Row
     empty name = None
@@ -194,12 +198,13 @@ root_entry draft items are b e found =
 pub opened_from : (t : Inside) → t.level ≡ 0 → t.rows.items ≡ [] → All (λ bound. bound ≡ 0) t.bounds.items → AreRoots t.presentation.presentation.generators t.entries.items
     → t.images.items ≡ map unit (range_with_len 0 t.presentation.presentation.generators) → table_of t ≡ opened t.presentation
 opened_from t level rows nothing are images =
-    ap (λ k. tabled t.presentation k t.images.items t.bounds.items t.rows.items t.entries.items) level ∙ opened_is t.presentation t.entries.items t.bounds.items t.rows.items t.images.items rows nothing are images
+    ap (λ k. tabled t.presentation k t.images.items t.bounds.items t.rows.items t.forwards.items t.entries.items) level
+    ∙ opened_is t.presentation t.entries.items t.bounds.items t.rows.items t.forwards.items t.images.items rows nothing are images
 
 pub kept_opened : (t : Inside) → t.level ≡ 0 → t.rows.items ≡ [] → length t.bounds.items ≡ letter_count t.presentation.presentation → All (λ bound. bound ≡ 0) t.bounds.items → AreRoots t.presentation.presentation.generators t.entries.items
-    → t.images.items ≡ map unit (range_with_len 0 t.presentation.presentation.generators) → t.live ≡ t.presentation.presentation.generators → AreReaches t.presentation.presentation t.reaches → IsValid t.presentation.presentation
-    → HasBounds t.presentation.presentation → IsKept t
-kept_opened t level rows letters nothing are images live reaches valid bounds =
+    → t.images.items ≡ map unit (range_with_len 0 t.presentation.presentation.generators) → t.live ≡ t.presentation.presentation.generators → t.forwards.items ≡ [] → vec_capacity t.forwards ≡ t.presentation.presentation.generators → AreReaches t.presentation.presentation t.reaches
+    → IsValid t.presentation.presentation → HasBounds t.presentation.presentation → IsKept t
+kept_opened t level rows letters nothing are images live none room reaches valid bounds =
     let count : ℕ = t.presentation.presentation.generators in
     let same : table_of t ≡ opened t.presentation = opened_from t level rows nothing are images in
     let ids : length t.entries.items ≡ count = sym (length-map t.entries.items (λ (e : Entry). e.origin)) ∙ ap length are.origins ∙ length-map-range_with_len Root 0 count in
@@ -215,5 +220,6 @@ kept_opened t level rows letters nothing are images live reaches valid bounds =
       one_bound_each = letters;
       bounds = λ k d lt. omega (arith, nothing k d lt);
       live_count = live ∙ sym (length-map-range_with_len generator 0 count) ∙ ap length (sym live_are) ∙ ap (λ T. length (live_words T)) (sym same);
+      own_forwards = keeps_live t.entries.items t.live t.forwards (λ k d lt. (are.each k d lt).live) none (omega (arith, live, ids)) (omega (arith, room, ids));
       own_reaches = reaches;
     }

@@ -1,10 +1,11 @@
 -- The entries of live ids, numbered anew, are the table without the dead ones.
-use Rattle.std.proofs.Common.{◌≡◌, ℕ, suc, ◌+◌, ◌*◌, ◌<◌, ◌≤◌, ◌⊎◌, inl, inr, true, false, Some, None, List, [], ◌∷◌, length, map, take, get_or, refl, sym, ap, ap₂, subst, ◌∙◌, arith}
-use Rattle.std.specs.Prelude.{Option, All, IsSome, slice_get, filter, count_by}
-use Rattle.std.specs.Option.{is_none, is_some, option_map, unwrap_or}
+use Rattle.std.proofs.Common.{◌≡◌, ℕ, suc, ◌+◌, ◌*◌, ◌<◌, ◌≤◌, ◌⊎◌, inl, inr, Some, None, List, [], ◌∷◌, length, map, take, get_or, refl, sym, ap, ap₂, subst, ◌∙◌, arith}
+use Rattle.std.specs.Prelude.{Option, All, IsSome, slice_get, filter, count_by, min}
+use Rattle.std.specs.Option.{is_some, option_map, unwrap_or}
+use Rattle.std.specs.Vec.{vec_capacity}
 use Rattle.ve_pres.specs.Drafts.{Draft}
 use Rattle.std.proofs.lemmas.Option.{slice_get_within, slice_get-get_or, slice_get-map, get_or_from_slice_get}
-use Rattle.std.proofs.lemmas.Bool.{cases_lt}
+use Rattle.std.proofs.lemmas.Bool.{cases_lt, eqb-true}
 use Rattle.std.proofs.lemmas.List.{get_or_past, length-map, take-map, map-id, get_or_default}
 use Rattle.std.proofs.lemmas.List.FromFn.{get_or-map-range_with_len, length-map-range_with_len}
 use Rattle.std.proofs.lemmas.List.Elements.{All-nil, All-head, All-tail, filter_passes}
@@ -27,7 +28,9 @@ use Rattle.ve_table.specs.Rows.{AreBounds, AreLiveRows}
 use Rattle.ve_table.specs.Steps.{HasRisingReaches}
 use Rattle.ve_table.proofs.Stepping.{rising_entries}
 use Rattle.ve_table.specs.Kept.{table_of, IsEntryOf, IsKept}
-use Rattle.ve_table.specs.Numbers.{is_live_entry, new_numbers, CanNumber, HasParentBelow, numbered_origin, CanNumberEntry, IsNumbered, AreNumbered}
+use Rattle.ve_table.specs.Numbers.{new_numbers, CanNumber, HasParentBelow, numbered_origin, CanNumberEntry, IsNumbered, AreNumbered}
+use Rattle.ve_table.specs.Deaths.{is_live_entry, forward_of, forwards_of}
+use Rattle.ve_table.proofs.Deaths.{live_death, keeps_live}
 use Rattle.ve_table.proofs.Entries.{tabled, one_entry_each, rows_agree, row_bounded, below_due, zero_past}
 use Rattle.ve_table.proofs.Listed.{Agree, AreBelow, vector_in, at_place, place_past, no_id, listed_is}
 use Rattle.ve_table.proofs.Opening.{same_map, all_live, nones}
@@ -43,15 +46,15 @@ map_same f g (x ∷ xs) each = ap₂ (λ z l. z ∷ l) (each 0 x (omega arith)) 
 
 -- the numbers of all ids
 
-pub filter_is : (es : List Entry) → filter is_live_entry es ≡ of_live (map (λ (e : Entry). e.forward) es) es
-filter_is es =
-    sym (map-id (filter is_live_entry es)) ∙ sym (live_filter (λ (e : Entry). e) es) ∙ ap (λ l. of_live (map (λ (e : Entry). e.forward) es) l) (map-id es)
+pub filter_is : (fs : List Row) (es : List Entry) → filter is_live_entry es ≡ of_live (forwards_of fs es) es
+filter_is fs es =
+    sym (map-id (filter is_live_entry es)) ∙ sym (live_filter (λ (e : Entry). e) fs es) ∙ ap (of_live (forwards_of fs es)) (map-id es)
 
-number_at : (t : Inside) → IsKept t → (b : ℕ) → b < length t.entries.items → get_or (new_numbers t.entries.items) b 0 ≡ live_below (table_of t) b
+pub number_at : (t : Inside) → IsKept t → (b : ℕ) → b < length t.entries.items → get_or (new_numbers t.entries.items) b 0 ≡ live_below (table_of t) b
 number_at t kept b lt =
     let es : List Entry = t.entries.items in
     get_or-map-range_with_len (λ b. count_by is_live_entry (take b es)) 0 (length es) b b 0 lt (omega arith)
-    ∙ alive_entries (take b es) ∙ ap alive (sym (take-map (λ (e : Entry). e.forward) b es)) ∙ sym (number_is (table_of t) b kept.sound.one_forward_each)
+    ∙ alive_entries t.forwards.items (take b es) ∙ ap alive (sym (take-map (λ (e : Entry). forward_of t.forwards.items e.death) b es)) ∙ sym (number_is (table_of t) b kept.sound.one_forward_each)
 
 numbered_is : (T : ActionTable) (numbers : List ℕ) (n : ℕ) → ((b : ℕ) → b < n → get_or numbers b 0 ≡ live_below T b) → (v : Row) → All (λ t. t.0 < n) v → numbered numbers v ≡ renumbered T v
 numbered_is T numbers n at [] within = refl
@@ -91,10 +94,10 @@ pub old_entry : (t : Inside) → IsKept t → (k : ℕ) (d : Entry) → k < leng
 old_entry t kept k d lt =
     let T : ActionTable = table_of t in
     let same = kept.sound.one_forward_each in
-    let old = old_id T k same (omega (arith, lt, alive_filter t.entries.items, live_count T same)) in
-    let entries : length T.forwards ≡ length t.entries.items = length-map t.entries.items (λ (e : Entry). e.forward) in
+    let old = old_id T k same (omega (arith, lt, alive_filter t.forwards.items t.entries.items, live_count T same)) in
+    let entries : length T.forwards ≡ length t.entries.items = length-map t.entries.items (λ (e : Entry). forward_of t.forwards.items e.death) in
     let here : get_or (filter is_live_entry t.entries.items) k d ≡ get_or t.entries.items old.0 d =
-    ap (λ l. get_or l k d) (filter_is t.entries.items) ∙ ap (λ n. get_or (of_live T.forwards t.entries.items) n d) (sym old.2 ∙ number_is T old.0 same)
+    ap (λ l. get_or l k d) (filter_is t.forwards.items t.entries.items) ∙ ap (λ n. get_or (of_live T.forwards t.entries.items) n d) (sym old.2 ∙ number_is T old.0 same)
     ∙ of_live-at T.forwards t.entries.items old.0 d entries old.1 in
     (old.0, old.1, old.2, slice_get-get_or t.entries.items old.0 d (omega (arith, entries, slice_get_within T.forwards old.0 None old.1)) ∙ ap Some (sym here))
 
@@ -126,7 +129,7 @@ abbrev pub AreDropped : Inside → List Entry → Type 0
 AreDropped t new = AreNumbered (new_numbers t.entries.items) (filter is_live_entry t.entries.items) new
 
 length_dropped : (t : Inside) → IsKept t → (new : List Entry) → AreDropped t new → length new ≡ length (live_words (table_of t))
-length_dropped t kept new are = are.count ∙ alive_filter t.entries.items ∙ sym (live_count (table_of t) kept.sound.one_forward_each)
+length_dropped t kept new are = are.count ∙ alive_filter t.forwards.items t.entries.items ∙ sym (live_count (table_of t) kept.sound.one_forward_each)
 
 pub entries_within : (t : Inside) (new : List Entry) → AreDropped t new → length new ≤ length t.entries.items
 entries_within t new are = omega (arith, are.count, length-filter is_live_entry t.entries.items, count_by-le-length is_live_entry t.entries.items)
@@ -151,34 +154,35 @@ dropped_words t kept live new are =
         (origin_kept t kept live old.0 (get_or (filter is_live_entry t.entries.items) k e'.0).origin old.1
         (kept.entries old.0 (get_or (filter is_live_entry t.entries.items) k e'.0) old.3).origin)))
 
-dropped_forwards : (t : Inside) → IsKept t → (new : List Entry) → AreDropped t new → map (λ (e : Entry). e.forward) new ≡ map (λ _. None) (live_words (table_of t))
-dropped_forwards t kept new are =
-    same_map (λ (e : Entry). e.forward) None new (live_words (table_of t)) (length_dropped t kept new are)
-    (λ k d lt. let in' : k < length (filter is_live_entry t.entries.items) = omega (arith, lt, are.count) in
-    (are.each k d in').forward ∙ none (get_or (filter is_live_entry t.entries.items) k d).forward (filter_passes is_live_entry t.entries.items k d in'))
-  where
-    none : (f : Option Row) → is_none f ≡ true → f ≡ None
-    none None is = refl
-    none (Some v) is = absurd (let bad : false ≡ true = is in cc)
+-- they are live
+dropped_deaths : (t : Inside) (new : List Entry) → AreDropped t new → All (λ (e : Entry). e.death ≡ 0) new
+dropped_deaths t new are k d lt =
+    let in' : k < length (filter is_live_entry t.entries.items) = omega (arith, lt, are.count) in
+    (are.each k d in').death ∙ eqb-true (get_or (filter is_live_entry t.entries.items) k d).death 0 (filter_passes is_live_entry t.entries.items k d in')
+
+dropped_forwards : (t : Inside) → IsKept t → (fs : List Row) (new : List Entry) → AreDropped t new → forwards_of fs new ≡ map (λ _. None) (live_words (table_of t))
+dropped_forwards t kept fs new are =
+    same_map (λ (e : Entry). forward_of fs e.death) None new (live_words (table_of t)) (length_dropped t kept new are) (λ k d lt. ap (forward_of fs) (dropped_deaths t new are k d lt))
 
 -- the rows
 
 -- how many ids below are live, counted over entries
 live_entries_below : (t : Inside) → IsKept t → (b : ℕ) → count_by is_live_entry (take b t.entries.items) ≡ live_below (table_of t) b
 live_entries_below t kept b =
-    alive_entries (take b t.entries.items) ∙ ap alive (sym (take-map (λ (e : Entry). e.forward) b t.entries.items)) ∙ sym (number_is (table_of t) b kept.sound.one_forward_each)
+    alive_entries t.forwards.items (take b t.entries.items) ∙ ap alive (sym (take-map (λ (e : Entry). forward_of t.forwards.items e.death) b t.entries.items)) ∙ sym (number_is (table_of t) b kept.sound.one_forward_each)
 
 all_live_entries : (t : Inside) → IsKept t → count_by is_live_entry t.entries.items ≡ length (live_words (table_of t))
-all_live_entries t kept = alive_entries t.entries.items ∙ sym (live_count (table_of t) kept.sound.one_forward_each)
+all_live_entries t kept = alive_entries t.forwards.items t.entries.items ∙ sym (live_count (table_of t) kept.sound.one_forward_each)
 
 -- the entry of a live id
-live_entry : (t : Inside) → IsKept t → (b : ℕ) → IsLive (table_of t) b → (e : Entry) × (slice_get t.entries.items b ≡ Some e) × (e.forward ≡ None)
+pub live_entry : (t : Inside) → IsKept t → (b : ℕ) → IsLive (table_of t) b → (e : Entry) × (slice_get t.entries.items b ≡ Some e) × (e.death ≡ 0)
 live_entry t kept b is_live =
-    let found = some_back (λ (e : Entry). e.forward) (slice_get t.entries.items b) None (sym (slice_get-map (λ (e : Entry). e.forward) t.entries.items b) ∙ is_live) in
-    (found.0, found.1, found.2)
+    let forward : Entry → Option Row = λ e. forward_of t.forwards.items e.death in
+    let found = some_back forward (slice_get t.entries.items b) None (sym (slice_get-map forward t.entries.items b) ∙ is_live) in
+    (found.0, found.1, live_death t.forwards.items found.0.death found.2)
 
 -- what stands at a live id's new number
-kept_row : (t : Inside) → IsKept t → (new : List Row) → AreLiveRows (letter_count t.presentation.presentation) t.entries.items t.rows.items new → (b x : ℕ) → IsLive (table_of t) b → x < letter_count t.presentation.presentation
+pub kept_row : (t : Inside) → IsKept t → (new : List Row) → AreLiveRows (letter_count t.presentation.presentation) t.entries.items t.rows.items new → (b x : ℕ) → IsLive (table_of t) b → x < letter_count t.presentation.presentation
     → get_or new (live_below (table_of t) b * letter_count t.presentation.presentation + x) [] ≡ vector_in (table_of t).rows b x
 kept_row t kept new are b x is_live letter =
     let e = live_entry t kept b is_live in
@@ -261,15 +265,15 @@ dropped_below : (t : Inside) → IsKept t → NamesLiveIds (table_of t) → (new
     → AreBelow (letter_count t.presentation.presentation) (length new) bounds (without_dead (table_of t)).rows
 dropped_below t kept live new are bounds bounds_are = below_due (without_dead (table_of t)) new bounds (sound_dropped (table_of t) kept.sound live) (length_dropped t kept new are) (entries_dropped t kept live new are) bounds_are
 
-pub dropped : (t : Inside) → IsKept t → NamesLiveIds (table_of t) → (entries : List Entry) (rows : List Row) (bounds : List ℕ) → AreDropped t entries → AreLiveRows (letter_count t.presentation.presentation) t.entries.items t.rows.items rows
+pub dropped : (t : Inside) → IsKept t → NamesLiveIds (table_of t) → (entries : List Entry) (rows forwards : List Row) (bounds : List ℕ) → AreDropped t entries → AreLiveRows (letter_count t.presentation.presentation) t.entries.items t.rows.items rows
     → AreBounds t.presentation.presentation.weights t.level entries bounds
-    → tabled t.presentation t.level (map (numbered (new_numbers t.entries.items)) t.images.items) bounds (renumbered_rows t.entries.items rows) entries ≡ without_dead (table_of t)
-dropped t kept live entries rows bounds are are_rows bounds_are =
+    → tabled t.presentation t.level (map (numbered (new_numbers t.entries.items)) t.images.items) bounds (renumbered_rows t.entries.items rows) forwards entries ≡ without_dead (table_of t)
+dropped t kept live entries rows forwards bounds are are_rows bounds_are =
     let sound = sound_dropped (table_of t) kept.sound live in
     let n : ℕ = letter_count t.presentation.presentation in
     rw (
       dropped_words t kept live entries are,
-      dropped_forwards t kept entries are,
+      dropped_forwards t kept forwards entries are,
       listed_is n (length entries) bounds (renumbered_rows t.entries.items rows) (without_dead (table_of t)).rows (sound.one_row_list_each ∙ sym (length_dropped t kept entries are)) sound.one_place_each
           (dropped_agree t kept live rows are_rows) (dropped_below t kept live entries are bounds bounds_are),
       map_same (numbered (new_numbers t.entries.items)) (renumbered (table_of t)) t.images.items (λ k d lt. vector_numbered t kept (get_or t.images.items k d) (live.images k d lt)),
@@ -302,8 +306,8 @@ module _ (t : Inside) (kept : IsKept t) (live : NamesLiveIds (table_of t)) (entr
       zero_past n (length entries) bounds (renumbered_rows t.entries.items rows) (without_dead (table_of t)).rows ((sound_dropped (table_of t) kept.sound live).one_row_list_each ∙ sym (length_dropped t kept entries are))
       (dropped_agree t kept live rows are_rows) (dropped_below t kept live entries are bounds bounds_are)
 
-  pub kept_dropped : (u : Inside) → u.entries.items ≡ entries → u.rows.items ≡ renumbered_rows t.entries.items rows → u.bounds.items ≡ bounds → table_of u ≡ without_dead (table_of t) → u.live ≡ t.live → u.presentation ≡ t.presentation → u.reaches ≡ t.reaches → IsKept u
-  kept_dropped u entries_are rows_are ks_are same live_same presentation reaches = record {
+  pub kept_dropped : (u : Inside) → u.entries.items ≡ entries → u.rows.items ≡ renumbered_rows t.entries.items rows → u.bounds.items ≡ bounds → table_of u ≡ without_dead (table_of t) → u.live ≡ t.live → u.forwards.items ≡ [] → min t.live (vec_capacity t.forwards) ≤ vec_capacity u.forwards → u.presentation ≡ t.presentation → u.reaches ≡ t.reaches → IsKept u
+  kept_dropped u entries_are rows_are ks_are same live_same none room presentation reaches = record {
     sound = subst IsSound (sym same) (sound_dropped (table_of t) kept.sound live);
     entries = λ b e found. subst (λ U. IsEntryOf U b e) (sym same) (entries_dropped t kept live entries are b e (subst (λ l. slice_get l b ≡ Some e) entries_are found));
     count = omega (arith, ap length entries_are, kept.count, entries_within t entries are);
@@ -318,12 +322,16 @@ module _ (t : Inside) (kept : IsKept t) (live : NamesLiveIds (table_of t)) (entr
         (subst (λ m. (b x : ℕ) → x < m → get_or bounds x 0 ≤ b → get_or (renumbered_rows t.entries.items rows) (b * m + x) [] ≡ []) (sym letters) dropped_zero));
     one_bound_each = ap length ks_are ∙ bounds_are.count ∙ kept.sound.valid.presentation.one_weight_each ∙ sym letters;
     bounds = subst (λ (ks : List ℕ). All (λ bound. bound ≤ length u.entries.items) ks) (sym ks_are) (subst (λ l. All (λ bound. bound ≤ length l) bounds) (sym entries_are) bounds_are.within);
-    live_count = live_same ∙ kept.live_count ∙ ap length (sym (all_live (map none (live_words (table_of t))) (live_words (table_of t)) (nones (live_words (table_of t))) (length-map (live_words (table_of t)) none))) ∙ ap (λ U. length (live_words U)) (sym same);
+    live_count = live_same ∙ kept.live_count ∙ ap length (sym (all_live (map absent (live_words (table_of t))) (live_words (table_of t)) (nones (live_words (table_of t))) (length-map (live_words (table_of t)) absent))) ∙ ap (λ U. length (live_words U)) (sym same);
+    own_forwards =
+        keeps_live u.entries.items u.live u.forwards (subst (All (λ (e : Entry). e.death ≡ 0)) (sym entries_are) (dropped_deaths t entries are)) none
+        (live_same ∙ kept.live_count ∙ sym (length_dropped t kept entries are) ∙ sym (ap length entries_are))
+        (omega (arith, ap length entries_are, entries_within t entries are, kept.own_forwards.room, kept.live_count, length_dropped t kept entries are, room));
     own_reaches = subst (λ d. AreReaches d.presentation u.reaches) (sym presentation) (subst (λ r. AreReaches t.presentation.presentation r) (sym reaches) kept.own_reaches);
   }
     where
-      none : Word → Option Row
-      none w = None
+      absent : Word → Option Row
+      absent w = None
 
       letters : letter_count u.presentation.presentation ≡ n
       letters = ap (λ (d : Draft). letter_count d.presentation) presentation
@@ -339,8 +347,8 @@ live_rows t kept letters entries new letters_are entries_are are =
     subst (λ n. AreLiveRows n t.entries.items t.rows.items new) (letters_are ∙ kept.sound.valid.presentation.one_weight_each) (subst (λ l. AreLiveRows letters l t.rows.items new) entries_are are)
 
 -- the table after the steps
-pub dropped_view : (t : Inside) → IsKept t → NamesLiveIds (table_of t) → (entries : List Entry) (kept_rows rows images : List Row) (bounds : List ℕ) → AreDropped t entries
+pub dropped_view : (t : Inside) → IsKept t → NamesLiveIds (table_of t) → (entries : List Entry) (kept_rows rows forwards images : List Row) (bounds : List ℕ) → AreDropped t entries
     → AreLiveRows (letter_count t.presentation.presentation) t.entries.items t.rows.items kept_rows → AreBounds t.presentation.presentation.weights t.level entries bounds → rows ≡ renumbered_rows t.entries.items kept_rows
-    → images ≡ map (numbered (new_numbers t.entries.items)) t.images.items → tabled t.presentation t.level images bounds rows entries ≡ without_dead (table_of t)
-dropped_view t kept live entries kept_rows rows images bounds are are_rows bounds_are rows_are images_are =
-    ap₂ (λ l r. tabled t.presentation t.level l bounds r entries) images_are rows_are ∙ dropped t kept live entries kept_rows bounds are are_rows bounds_are
+    → images ≡ map (numbered (new_numbers t.entries.items)) t.images.items → tabled t.presentation t.level images bounds rows forwards entries ≡ without_dead (table_of t)
+dropped_view t kept live entries kept_rows rows forwards images bounds are are_rows bounds_are rows_are images_are =
+    ap₂ (λ l r. tabled t.presentation t.level l bounds r forwards entries) images_are rows_are ∙ dropped t kept live entries kept_rows forwards bounds are are_rows bounds_are

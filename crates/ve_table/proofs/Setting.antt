@@ -19,6 +19,7 @@ use Rattle.ve_table.specs.Rows.{listed}
 use Rattle.ve_table.specs.Kept.{table_of, IsEntryOf, IsKept}
 use Rattle.ve_table.specs.declared.table.Table.TheInside.{Inside}
 use Rattle.ve_table.specs.declared.entry.Entry.{Entry}
+use Rattle.ve_table.specs.Deaths.{KeepsForwards}
 use Rattle.ve_table.proofs.Entries.{same_some, tabled, has_entry, rows_agree, rows_below, row_bounded, zero_past}
 use Rattle.ve_table.proofs.Listed.{row_in, Agree, AreBelow, count_listed, wide_listed, listed_are_below, listed_is, set_agrees}
 use Rattle.ve_table.proofs.Killing.{read_set}
@@ -134,17 +135,17 @@ sound_rowed T b x v sound is_some is_row = record {
     seen vector = record { stands = stood vector.stands; not_after = vector.not_after }
 
 -- the table with another row
-pub rowed : (draft : Draft) (level : ℕ) (images : List Row) (bounds : List ℕ) (rows : List Row) (items : List Entry) (b x : ℕ) (v : Row)
+pub rowed : (draft : Draft) (level : ℕ) (images : List Row) (bounds : List ℕ) (rows forwards : List Row) (items : List Entry) (b x : ℕ) (v : Row)
     → Agree (letter_count draft.presentation) rows (listed (letter_count draft.presentation) (length items) bounds rows)
     → IsSome (row_in (listed (letter_count draft.presentation) (length items) bounds rows) b x) → b < length items → x < letter_count draft.presentation → b * letter_count draft.presentation + x < length rows
-    → tabled draft level images bounds (set rows (b * letter_count draft.presentation + x) v) items ≡ with_row (tabled draft level images bounds rows items) b x v
-rowed draft level images bounds rows items b x v agree is_some id letter place =
+    → tabled draft level images bounds (set rows (b * letter_count draft.presentation + x) v) forwards items ≡ with_row (tabled draft level images bounds rows forwards items) b x v
+rowed draft level images bounds rows forwards items b x v agree is_some id letter place =
     let n : ℕ = letter_count draft.presentation in
     let lists : List (List (Option Row)) = listed n (length items) bounds rows in
     let wide = wide_listed n (length items) bounds rows in
     let inside : b < length lists = omega (arith, id, count_listed n (length items) bounds rows) in
     let width : length (get_or lists b []) ≡ n = wide b [] inside in
-    ap (λ (r : List (List (Option Row))). record (tabled draft level images bounds rows items) { rows = r })
+    ap (λ (r : List (List (Option Row))). record (tabled draft level images bounds rows forwards items) { rows = r })
     (listed_is n (length items) bounds (set rows (b * n + x) v) (set lists b (set (get_or lists b []) x (Some v))) (length-set lists b (set (get_or lists b []) x (Some v)) ∙ count_listed n (length items) bounds rows)
     (All-set (λ (row : List (Option Row)). length row ≡ n) lists b (set (get_or lists b []) x (Some v)) (length-set (get_or lists b []) x (Some v) ∙ width) wide)
     (set_agrees n rows lists b x v agree inside letter width place)
@@ -166,15 +167,15 @@ set_place t kept b x letters y letters_are y_is = ap₂ (λ n z. b * n + z) (let
 
 -- the table with a row set
 pub row_set : (t : Inside) → IsKept t → (b x place : ℕ) (v : Row) → place ≡ b * letter_count t.presentation.presentation + x → IsSome (row_at (table_of t) b x)
-    → tabled t.presentation t.level t.images.items t.bounds.items (set t.rows.items place v) t.entries.items ≡ with_row (table_of t) b x v
+    → tabled t.presentation t.level t.images.items t.bounds.items (set t.rows.items place v) t.forwards.items t.entries.items ≡ with_row (table_of t) b x v
 row_set t kept b x place v place_is is_some =
     let there = has_place t kept b x is_some in
-    ap (λ k. tabled t.presentation t.level t.images.items t.bounds.items (set t.rows.items k v) t.entries.items) place_is
-    ∙ rowed t.presentation t.level t.images.items t.bounds.items t.rows.items t.entries.items b x v (rows_agree t kept) is_some there.0 there.1 there.2
+    ap (λ k. tabled t.presentation t.level t.images.items t.bounds.items (set t.rows.items k v) t.forwards.items t.entries.items) place_is
+    ∙ rowed t.presentation t.level t.images.items t.bounds.items t.rows.items t.forwards.items t.entries.items b x v (rows_agree t kept) is_some there.0 there.1 there.2
 
 pub kept_with_row : (t u : Inside) → IsKept t → (b x place : ℕ) (v : Row) → place ≡ b * letter_count t.presentation.presentation + x → IsSome (row_at (table_of t) b x) → IsRowOf (table_of t) b x v → table_of u ≡ with_row (table_of t) b x v
-    → u.rows.items ≡ set t.rows.items place v → u.bounds ≡ t.bounds → u.entries.items ≡ t.entries.items → u.presentation ≡ t.presentation → u.live ≡ t.live → u.reaches ≡ t.reaches → IsKept u
-kept_with_row t u kept b x place v place_is is_some is_row same rows bounds entries presentation live reaches =
+    → u.rows.items ≡ set t.rows.items place v → u.bounds ≡ t.bounds → u.entries.items ≡ t.entries.items → u.forwards ≡ t.forwards → u.presentation ≡ t.presentation → u.live ≡ t.live → u.reaches ≡ t.reaches → IsKept u
+kept_with_row t u kept b x place v place_is is_some is_row same rows bounds entries forwards presentation live reaches =
     let n : ℕ = letter_count t.presentation.presentation in
     let letters : letter_count u.presentation.presentation ≡ n = ap (λ (d : Draft). letter_count d.presentation) presentation in
     let count : length u.rows.items ≡ length t.rows.items = ap length rows ∙ length-set t.rows.items place v in
@@ -202,5 +203,6 @@ kept_with_row t u kept b x place v place_is is_some is_row same rows bounds entr
       one_bound_each = ap (λ (bs : VecValue ℕ Global). length bs.items) bounds ∙ kept.one_bound_each ∙ sym letters;
       bounds = subst (λ (bs : VecValue ℕ Global). All (λ bound. bound ≤ length u.entries.items) bs.items) (sym bounds) (subst (λ l. All (λ bound. bound ≤ length l) t.bounds.items) (sym entries) kept.bounds);
       live_count = live ∙ kept.live_count ∙ ap (λ U. length (live_words U)) (sym same);
+      own_forwards = subst (KeepsForwards u.entries.items u.live) (sym forwards) (subst (λ n. KeepsForwards u.entries.items n t.forwards) (sym live) (subst (λ l. KeepsForwards l t.live t.forwards) (sym entries) kept.own_forwards));
       own_reaches = subst (λ d. AreReaches d.presentation u.reaches) (sym presentation) (subst (λ r. AreReaches t.presentation.presentation r) (sym reaches) kept.own_reaches);
     }

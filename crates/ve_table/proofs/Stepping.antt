@@ -1,5 +1,5 @@
 -- Ids by reach.
-use Rattle.std.proofs.Common.{◌≡◌, ℕ, suc, ◌+◌, ◌<◌, ◌≤◌, ◌⊎◌, inl, inr, false, true, Some, None, List, [], ◌∷◌, length, map, take, drop, get_or, ltb, refl, sym, ap, subst, ◌∙◌, arith, cond, ne_eqb}
+use Rattle.std.proofs.Common.{◌≡◌, ◌≢◌, ℕ, suc, ◌+◌, ◌<◌, ◌≤◌, ◌⊎◌, inl, inr, false, true, Some, None, List, [], ◌∷◌, length, take, drop, get_or, ltb, refl, sym, ap, subst, ◌∙◌, arith, cond, ne_eqb}
 use Rattle.std.specs.Prelude.{Option, Bool, All, nat_eq, count_by, sum_by, slice_get}
 use Rattle.std.specs.List.{AllWithin, AllZip}
 use Rattle.std.specs.List.Sorted.{IsPartitionedBy}
@@ -18,7 +18,9 @@ use Rattle.ve_table.specs.Kept.{table_of, IsEntryOf, IsKept}
 use Rattle.ve_table.specs.declared.table.Table.TheInside.{Inside}
 use Rattle.ve_table.proofs.Entries.{one_entry_each}
 use Rattle.ve_table.specs.declared.entry.Entry.{Entry}
-use Rattle.ve_table.specs.Steps.{HasRisingReaches, where_live, live_steps}
+use Rattle.ve_table.specs.Steps.{HasRisingReaches, live_steps}
+use Rattle.ve_table.specs.Deaths.{is_live_entry, forward_of, forwards_of}
+use Rattle.ve_table.proofs.Deaths.{live_death}
 
 pub partitioned : (reach : ℕ) (xs : List Entry) → HasRisingReaches xs → IsPartitionedBy (λ (e : Entry). ltb e.reach reach) xs
 partitioned reach xs rising i j d le within below =
@@ -27,17 +29,11 @@ partitioned reach xs rising i j d le within below =
       | inr differ ↦ lt-ltb (get_or xs i d).reach reach (omega (arith, ltb-true (get_or xs j d).reach reach below, rising i j d (omega (arith, differ)) within))
     ]
 
-pub live_steps-live : (weights : List ℕ) (reach : ℕ) (e : Entry) → e.forward ≡ None → live_steps weights reach e ≡ count_by (λ step. nat_eq (e.reach + step) reach) weights
-unfolding where_live
-live_steps-live weights reach e live = ap (λ f. where_live f (count_by (λ step. nat_eq (e.reach + step) reach) weights)) live
+pub live_steps-live : (weights : List ℕ) (reach : ℕ) (e : Entry) → e.death ≡ 0 → live_steps weights reach e ≡ count_by (λ step. nat_eq (e.reach + step) reach) weights
+live_steps-live weights reach e live = ap (λ n. cond (nat_eq n 0) (count_by (λ step. nat_eq (e.reach + step) reach) weights) 0) live
 
-none_of : (f : Option Row) (n : ℕ) → (f ≡ None → ⊥) → where_live f n ≡ 0
-unfolding where_live
-none_of None n dead = absurd (dead refl)
-none_of (Some v) n dead = refl
-
-pub live_steps-dead : (weights : List ℕ) (reach : ℕ) (e : Entry) → (e.forward ≡ None → ⊥) → live_steps weights reach e ≡ 0
-live_steps-dead weights reach e dead = none_of e.forward (count_by (λ step. nat_eq (e.reach + step) reach) weights) dead
+pub live_steps-dead : (weights : List ℕ) (reach : ℕ) (e : Entry) → e.death ≢ 0 → live_steps weights reach e ≡ 0
+live_steps-dead weights reach e dead = cond-false (nat_eq e.death 0) (count_by (λ step. nat_eq (e.reach + step) reach) weights) 0 (ne_eqb e.death 0 dead)
 
 -- ids without steps
 
@@ -46,15 +42,14 @@ no_count p xs none =
     let all : All (λ x. cond (p x) 1 0 ≤ 0) xs = λ k d lt. let off = cond-false {A = ℕ} (p (get_or xs k d)) 1 0 (none k d lt) in omega (arith, off) in
     omega (arith, sum_by-le (λ x. cond (p x) 1 0) 0 xs all)
 
-where_live-zero : (f : Option Row) (n : ℕ) → n ≡ 0 → where_live f n ≡ 0
-unfolding where_live
-where_live-zero None n none = none
-where_live-zero (Some v) n none = refl
+zero_either : (b : Bool) (n : ℕ) → n ≡ 0 → cond b n 0 ≡ 0
+zero_either true n none = none
+zero_either false n none = refl
 
 -- an id that no letter takes so far has no steps
 pub no_steps : (weights : List ℕ) (greatest reach : ℕ) (e : Entry) → All (λ s. s ≤ greatest) weights → e.reach + greatest < reach → live_steps weights reach e ≡ 0
 no_steps weights greatest reach e within short =
-    where_live-zero e.forward _
+    zero_either (is_live_entry e) _
     (no_count (λ step. nat_eq (e.reach + step) reach) weights
     (λ k d lt. ne_eqb (e.reach + get_or weights k d) reach (λ same. let le = within k d lt in omega (arith, short, same, le))))
 
@@ -87,24 +82,24 @@ pub of_live-nil : {X : Type 0} (xs : List X) → of_live [] xs ≡ []
 unfolding of_live
 of_live-nil xs = refl
 
-pub sum_live : (P : Presentation) (k : ℕ) (es : List Entry) (ws : List Word) → AllZip (λ (e : Entry) w. e.reach ≡ reach P w) es ws
-    → sum_by (live_steps P.weights k) es ≡ sum_by (steps_to P k) (of_live (map (λ (e : Entry). e.forward) es) ws)
-sum_live P k [] [] zipped = ap (λ l. sum_by (steps_to P k) l) (sym (of_live-nil []))
-sum_live P k [] (w ∷ ws) zipped = absurd zipped
-sum_live P k (e ∷ es) [] zipped = absurd zipped
-sum_live P k (e ∷ es) (w ∷ ws) zipped =
-    let rest = sum_live P k es ws zipped.1 in
+pub sum_live : (P : Presentation) (fs : List Row) (k : ℕ) (es : List Entry) (ws : List Word) → AllZip (λ (e : Entry) w. e.reach ≡ reach P w) es ws
+    → sum_by (live_steps P.weights k) es ≡ sum_by (steps_to P k) (of_live (forwards_of fs es) ws)
+sum_live P fs k [] [] zipped = ap (λ l. sum_by (steps_to P k) l) (sym (of_live-nil []))
+sum_live P fs k [] (w ∷ ws) zipped = absurd zipped
+sum_live P fs k (e ∷ es) [] zipped = absurd zipped
+sum_live P fs k (e ∷ es) (w ∷ ws) zipped =
+    let rest = sum_live P fs k es ws zipped.1 in
     let left = sum_by-cons (live_steps P.weights k) e es in
-    elim (option_cases e.forward) [
+    elim (option_cases (forward_of fs e.death)) [
       | inl none ↦
-          let right = ap (λ l. sum_by (steps_to P k) l) (of_live-none e.forward (map (λ (e : Entry). e.forward) es) w ws none) in
-          let more = sum_by-cons (steps_to P k) w (of_live (map (λ (e : Entry). e.forward) es) ws) in
-          let live = live_steps-live P.weights k e none in
+          let right = ap (λ l. sum_by (steps_to P k) l) (of_live-none (forward_of fs e.death) (forwards_of fs es) w ws none) in
+          let more = sum_by-cons (steps_to P k) w (of_live (forwards_of fs es) ws) in
+          let live = live_steps-live P.weights k e (live_death fs e.death none) in
           let same : count_by (λ step. nat_eq (e.reach + step) k) P.weights ≡ steps_to P k w = ap (λ r. count_by (λ step. nat_eq (r + step) k) P.weights) zipped.0 in
           left ∙ omega (arith, rest, live, same, more) ∙ sym right
       | inr some ↦
-          let right = ap (λ l. sum_by (steps_to P k) l) (of_live-some e.forward (map (λ (e : Entry). e.forward) es) w ws some.0 some.1) in
-          let dead = live_steps-dead P.weights k e (λ none. some_not_none some.0 (sym some.1 ∙ none)) in
+          let right = ap (λ l. sum_by (steps_to P k) l) (of_live-some (forward_of fs e.death) (forwards_of fs es) w ws some.0 some.1) in
+          let dead = live_steps-dead P.weights k e (λ live. some_not_none some.0 (sym some.1 ∙ ap (forward_of fs) live)) in
           left ∙ omega (arith, rest, dead) ∙ sym right
     ]
   where
@@ -132,7 +127,7 @@ rising_reaches t kept = rising_entries (table_of t) t.entries.items kept.sound (
 -- the steps of all entries are those of the live words
 pub steps_of_words : (t : Inside) → IsKept t → (k : ℕ) → sum_by (live_steps t.presentation.presentation.weights k) t.entries.items ≡ sum_by (steps_to t.presentation.presentation k) (live_words (table_of t))
 steps_of_words t kept k =
-    sum_live t.presentation.presentation k t.entries.items (table_of t).words
+    sum_live t.presentation.presentation t.forwards.items k t.entries.items (table_of t).words
     (zipped (λ (e : Entry) w. e.reach ≡ reach t.presentation.presentation w) t.entries.items (table_of t).words (generator 0) (one_entry_each t kept) (λ b e found. (kept.entries b e found).own_reach))
 
 -- an entry's reach is its word's

@@ -12,7 +12,7 @@ use Rattle.ve_theory.specs.Answers.{IsNotAfter}
 use Rattle.ve_table.specs.Tables.{ActionTable, presented, word_at}
 use Rattle.ve_table.specs.Sound.{StandsFor, IsVectorOf}
 
-unit_reduced : (p c : ℕ) → 1 < p → IsReduced ◌<◌ p (unit c)
+pub unit_reduced : (p c : ℕ) → 1 < p → IsReduced ◌<◌ p (unit c)
 unfolding IsReduced AllBefore
 unit_reduced p c large = (omega arith, large, tt, tt)
 

@@ -1,5 +1,5 @@
 -- Entries of births.
-use Rattle.std.specs.Prelude.{ℕ, ◌+◌, ◌<◌, ◌^◌, List, None, length, map, slice_index_or}
+use Rattle.std.specs.Prelude.{ℕ, ◌+◌, ◌<◌, ◌^◌, List, length, map, slice_index_or}
 use Rattle.ve_table.specs.declared.birth.Birth.{Birth}
 use Rattle.ve_table.specs.declared.origin.Origin.TheVariants.{Child}
 use Rattle.ve_table.specs.declared.entry.Entry.{Entry}
@@ -11,7 +11,7 @@ pub record CanDefine (entries : List Entry) (b : Birth) : Type 0 where
 
 -- a birth's entry
 abbrev pub entry_of_birth : (reach : ℕ) → List Entry → Birth → Entry
-entry_of_birth reach entries b = record { origin = Child b.parent b.letter; reach = reach; length = parent_length + 1; forward = None }
+entry_of_birth reach entries b = record { origin = Child b.parent b.letter; reach = reach; length = parent_length + 1; death = 0 }
   where
     parent_length : ℕ
     parent_length = slice_index_or (map (λ (e : Entry). e.length) entries) b.parent 0

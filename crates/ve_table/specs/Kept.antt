@@ -7,6 +7,7 @@ use Rattle.ve_table.specs.Books.{words_of, IsOriginOf}
 use Rattle.ve_table.specs.Rows.{listed}
 use Rattle.ve_table.specs.Sound.{IsSound}
 use Rattle.ve_table.specs.Reaches.{AreReaches}
+use Rattle.ve_table.specs.Deaths.{forwards_of, KeepsForwards}
 use Rattle.ve_table.specs.declared.entry.Entry.{Entry}
 use Rattle.ve_table.specs.declared.table.Table.TheInside.{Inside}
 
@@ -15,7 +16,7 @@ table_of t = record {
   draft = t.presentation;
   level = t.level;
   words = words_of (map (λ (e : Entry). e.origin) t.entries.items);
-  forwards = map (λ (e : Entry). e.forward) t.entries.items;
+  forwards = forwards_of t.forwards.items t.entries.items;
   rows = listed (letter_count t.presentation.presentation) (length t.entries.items) t.bounds.items t.rows.items;
   images = t.images.items;
 }
@@ -38,4 +39,5 @@ pub record IsKept (t : Inside) : Type 0 where
   pub one_bound_each : length t.bounds.items ≡ letter_count t.presentation.presentation
   pub bounds : All (λ bound. bound ≤ length t.entries.items) t.bounds.items
   pub live_count : t.live ≡ length (live_words (table_of t))
+  pub own_forwards : KeepsForwards t.entries.items t.live t.forwards
   pub own_reaches : AreReaches t.presentation.presentation t.reaches

@@ -3,6 +3,7 @@ pub mod Books
 pub mod Sound
 pub mod Changes
 pub mod Reaches
+pub mod Deaths
 pub mod Steps
 pub mod Roots
 pub mod Numbers

@@ -1,15 +1,12 @@
 -- New numbers for the live ids, in order from 0.
-use Rattle.std.specs.Prelude.{◌≡◌, ℕ, ◌<◌, Bool, List, All, length, map, take, count_by, slice_index, slice_index_or}
+use Rattle.std.specs.Prelude.{◌≡◌, ℕ, ◌<◌, List, All, length, map, take, count_by, slice_index, slice_index_or}
 use Rattle.std.specs.List.{range_with_len}
-use Rattle.std.specs.Option.{is_none}
 use Rattle.ve_theory.specs.Answers.{Row}
 use Rattle.ve_vec.specs.Vectors.{IsVector, numbered}
 use Rattle.ve_table.specs.declared.origin.Origin.{Origin}
 use Rattle.ve_table.specs.declared.origin.Origin.TheVariants.{Root, Child}
 use Rattle.ve_table.specs.declared.entry.Entry.{Entry}
-
-abbrev pub is_live_entry : Entry → Bool
-is_live_entry e = is_none e.forward
+use Rattle.ve_table.specs.Deaths.{is_live_entry}
 
 -- for each id how many live ones are below it
 abbrev pub new_numbers : List Entry → List ℕ
@@ -37,7 +34,7 @@ pub record IsNumbered (numbers : List ℕ) (old new : Entry) : Type 0 where
   pub origin : new.origin ≡ numbered_origin numbers old.origin
   pub own_reach : new.reach ≡ old.reach
   pub own_length : new.length ≡ old.length
-  pub forward : new.forward ≡ old.forward
+  pub death : new.death ≡ old.death
 
 -- so each of a list
 pub record AreNumbered (numbers : List ℕ) (old new : List Entry) : Type 0 where

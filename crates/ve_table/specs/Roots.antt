@@ -1,5 +1,5 @@
 -- The entries of level 0.
-use Rattle.std.specs.Prelude.{◌≡◌, ℕ, List, None, map, All}
+use Rattle.std.specs.Prelude.{◌≡◌, ℕ, List, map, All}
 use Rattle.std.specs.List.{range_with_len}
 use Rattle.ve_table.specs.declared.origin.Origin.TheVariants.{Root}
 use Rattle.ve_table.specs.declared.entry.Entry.{Entry}
@@ -8,7 +8,7 @@ use Rattle.ve_table.specs.declared.entry.Entry.{Entry}
 pub record IsRootEntry (e : Entry) : Type 0 where
   pub own_reach : e.reach ≡ 0
   pub own_length : e.length ≡ 0
-  pub live : e.forward ≡ None
+  pub live : e.death ≡ 0
 
 -- one for each of the generators, in order
 pub record AreRoots (count : ℕ) (entries : List Entry) : Type 0 where

@@ -5,7 +5,7 @@ use Rattle.ve_theory.specs.Combinations.{unit}
 use Rattle.ve_theory.specs.Answers.{Row}
 use Rattle.ve_table.specs.declared.birth.Birth.{Birth}
 use Rattle.ve_table.specs.declared.entry.Entry.{Entry}
-use Rattle.ve_table.specs.Numbers.{is_live_entry}
+use Rattle.ve_table.specs.Deaths.{is_live_entry}
 
 -- what an id has at a letter: the vector at its place where the id is below the letter's bound, and no row elsewhere
 abbrev pub row_placed : ℕ → List ℕ → List Row → ℕ → ℕ → Option Row
@@ -28,8 +28,8 @@ with_births_from letters first rows (b ∷ bs) = with_births_from letters (first
 
 -- the rows of live ids, at their new numbers
 pub record AreLiveRows (letters : ℕ) (entries : List Entry) (old new : List Row) : Type 0 where
-  pub rows : (b x : ℕ) (e : Entry) → slice_get entries b ≡ Some e → e.forward ≡ None → x < letters → slice_index_or new (count_by is_live_entry (take b entries) * letters + x) [] ≡ slice_index_or old (b * letters + x) []
-  pub places : (b x : ℕ) (e : Entry) → slice_get entries b ≡ Some e → e.forward ≡ None → x < letters → b * letters + x < length old → count_by is_live_entry (take b entries) * letters + x < length new
+  pub rows : (b x : ℕ) (e : Entry) → slice_get entries b ≡ Some e → e.death ≡ 0 → x < letters → slice_index_or new (count_by is_live_entry (take b entries) * letters + x) [] ≡ slice_index_or old (b * letters + x) []
+  pub places : (b x : ℕ) (e : Entry) → slice_get entries b ≡ Some e → e.death ≡ 0 → x < letters → b * letters + x < length old → count_by is_live_entry (take b entries) * letters + x < length new
   pub within : length new ≤ count_by is_live_entry entries * letters
 
 -- the rows of one id at the places of a lower one

@@ -1,20 +1,22 @@
 //! What the table keeps for an id beside its rows.
 
-ghost use Rattle.std.specs.Prelude.{◌≡◌, ◌↔◌, IsTrue, None, length};
-ghost use Rattle.std.specs.Option.{is_none};
+ghost use Rattle.std.specs.Prelude.{◌≡◌, ◌≤◌, ◌↔◌, IsTrue, length, nat_eq};
+ghost use Rattle.std.specs.Option.{option_copied};
+ghost use Rattle.ve_table.specs.Deaths.{forward_of};
 ghost use Rattle.ve_table.specs.Numbers.{CanNumberEntry, HasParentBelow, IsNumbered, numbered_origin};
 
 use crate::Origin;
 use ve_vec::Sparse;
 
-/// One id: where its word comes from, and what stands for it once it is dead.
-#[derive(Drop)]
+/// One id: where its word comes from, and whether it is dead.
+#[derive(Clone, Copy)]
 pub(crate) struct Entry {
     pub(crate) origin: Origin,
     // Of the word: the sum of its letters' weights, and how many letters it has.
     pub(crate) reach: u32,
     pub(crate) length: u32,
-    pub(crate) forward: Option<Sparse>,
+    // 0 where the id is live, else 1 more than the place of its forward in the list of the table.
+    pub(crate) death: u32,
 }
 
 impl Entry {
@@ -23,21 +25,30 @@ impl Entry {
         ensures origin { result.origin ≡ origin }
         ensures own_reach { result.reach ≡ reach }
         ensures own_length { result.length ≡ length }
-        ensures live { result.forward ≡ None }
+        ensures live { result.death ≡ 0 }
     {
         Entry {
             origin,
             reach,
             length,
-            forward: None,
+            death: 0,
         }
     }
 
     pub(crate) fn is_live(&self) -> bool
-        ensures live { IsTrue result ↔ (self.now.forward ≡ None) }
-        ensures value { result ≡ is_none self.now.forward }
+        ensures live { IsTrue result ↔ (self.now.death ≡ 0) }
+        ensures value { result ≡ nat_eq self.now.death 0 }
     {
-        self.forward.is_none()
+        self.death == 0
+    }
+
+    /// The vector that stands for the id once it is dead.
+    pub(crate) fn forward<'a>(&self, forwards: &'a [Sparse]) -> Option<&'a Sparse>
+        requires { self.now.death ≤ length forwards.now }
+        ensures { option_copied result ≡ forward_of forwards.now self.now.death }
+    {
+        let place = self.death.checked_sub(1)?;
+        Some(&forwards[place as usize])
     }
 
     /// Names the parent by its new number.

@@ -2,6 +2,8 @@
 //! zero.
 
 ghost use Rattle.std.specs.Prelude.{◌≡◌, ◌≢◌, ℕ, ◌+◌, ◌*◌, ◌<◌, ◌≤◌, ◌^◌, [], All, OnOk, length, max, slice_index_or};
+ghost use Rattle.std.specs.List.{AllWithin};
+ghost use Rattle.ve_table.specs.declared.entry.Entry.{Entry};
 ghost use Rattle.ve_table.specs.Rows.{AreLiveRows, AreMoved, with_births_from};
 
 use crate::birth::Birth;
@@ -48,16 +50,23 @@ pub(crate) fn set_units(
     }
 }
 
-/// Takes the rows of dead ids away, so that those of live ids follow one another.
-pub(crate) fn keep_live_rows(rows: &mut Vec<Sparse>, entries: &[Entry], letters: usize)
+/// Takes the rows of dead ids away, so that those of live ids follow one another. The first `least` ids are live.
+pub(crate) fn keep_live_rows(
+    rows: &mut Vec<Sparse>,
+    entries: &[Entry],
+    letters: usize,
+    least: usize,
+)
     requires count { length entries.now < 2 ^ 32 }
     requires letters { letters ≤ 32 }
+    requires bound { least ≤ length entries.now }
+    requires live { AllWithin (λ (e : Entry). e.death ≡ 0) entries.now 0 least }
     ensures { AreLiveRows letters entries.now rows.old.items rows.new.items }
 {
     let alloc = *rows.allocator();
-    let mut kept = 0;
-    for (id, entry) in entries.iter().enumerate() {
-        if entry.is_live() {
+    let mut kept = least;
+    for id in least..entries.len() {
+        if entries[id].is_live() {
             if kept < id {
                 move_rows(alloc, rows.as_mut_slice(), id, kept, letters);
             }

@@ -1,7 +1,7 @@
 //! The table and its readers.
 
 ghost use Rattle.std.specs.Prelude.{◌≡◌, ℕ, ◌+◌, ◌*◌, ◌<◌, ◌≤◌, ◌^◌, ◌↔◌, IsTrue, IfNone, IfSome, IsSome, Some, length, slice_get, count_by, nat_eq, position, sum_by, All, None};
-ghost use Rattle.std.specs.Option.{is_some, option_copied};
+ghost use Rattle.std.specs.Option.{option_copied};
 ghost use Rattle.ve_theory.specs.Words.{word_length};
 ghost use Rattle.ve_theory.specs.Presentations.{due, element_reach, reach, relator, relators, submodule_relation};
 ghost use Rattle.ve_theory.specs.Validity.{most_letters};
@@ -10,6 +10,7 @@ ghost use Rattle.ve_table.specs.Books.{IsOriginOf};
 ghost use Rattle.ve_table.specs.Sound.{IsSound};
 ghost use Rattle.ve_table.specs.Changes.{next_count};
 ghost use Rattle.ve_table.specs.Steps.{live_steps};
+ghost use Rattle.ve_table.specs.Deaths.{is_dead_entry};
 
 mod changes;
 mod copy;
@@ -35,6 +36,8 @@ pub struct Table {
     level: u32,
     // In the order of their words.
     entries: Vec<Entry>,
+    // The vectors that stand for dead ids, in the order in which they died. There is room for one of each id.
+    forwards: Vec<Sparse>,
     // For each id and then letter. The last ids may have no places yet.
     rows: Vec<Sparse>,
     // For each letter, how many ids have a row. They are the first ones.
@@ -149,7 +152,7 @@ impl Table {
         requires { IsId self.now id }
         ensures { slice_get self.now.forwards id ≡ Some (option_copied result) }
     {
-        self.entries[id as usize].forward.as_ref()
+        self.entries[id as usize].forward(&self.forwards)
     }
 
     /// Whether an id has a row at a letter: whether there are such an id and letter, and their product is within the level.
@@ -221,7 +224,7 @@ impl Table {
 }
 
 fn first_dead(entries: &[Entry]) -> Option<usize>
-    ensures { result ≡ position (λ (e : Entry). is_some e.forward) entries.now }
+    ensures { result ≡ position is_dead_entry entries.now }
 {
     entries.iter().position(|entry| !entry.is_live())
 }

@@ -18,7 +18,8 @@ impl Table {
         ensures sound { IsSound self.new }
     {
         self.live -= 1;
-        self.entries[id as usize].forward = Some(forward);
+        self.forwards.push_reserved(forward);
+        self.entries[id as usize].death = self.forwards.len() as u32;
     }
 
     /// Puts a vector in the place of a row.

@@ -1,7 +1,6 @@
-ghost use Rattle.std.specs.Prelude.{◌≡◌, IfOk};
+ghost use Rattle.std.specs.Prelude.{◌≡◌, ◌≤◌, IfOk, length, vec_capacity};
 
 use crate::Table;
-use crate::entry::Entry;
 use ve_vec::Sparse;
 use ve_word::Memory;
 
@@ -14,51 +13,25 @@ impl Table {
             presentation: self.presentation.copy()?,
             reaches: self.reaches.copy()?,
             level: self.level,
-            entries: copy_entries(&self.entries)?,
-            rows: copy_vectors(&self.rows)?,
+            entries: Vec::from_slice(*self.entries.allocator(), &self.entries)?,
+            forwards: copy_vectors(&self.forwards, self.entries.len())?,
+            rows: copy_vectors(&self.rows, self.rows.len())?,
             bounds: Vec::from_slice(*self.bounds.allocator(), &self.bounds)?,
             live: self.live,
-            images: copy_vectors(&self.images)?,
+            images: copy_vectors(&self.images, self.images.len())?,
         })
     }
 }
 
-fn copy_entries(entries: &Vec<Entry>) -> Result<Vec<Entry>, Memory>
-    ensures { IfOk result (λ copies. copies.items ≡ entries.now.items) }
+/// Copies of vectors, in a list with room for as many as asked for.
+fn copy_vectors(vectors: &Vec<Sparse>, room: usize) -> Result<Vec<Sparse>, Memory>
+    requires { length vectors.now.items ≤ room }
+    ensures copies { IfOk result (λ copies. copies.items ≡ vectors.now.items) }
+    ensures room { IfOk result (λ copies. vec_capacity copies ≡ room) }
 {
-    let mut copies = Vec::with_capacity(*entries.allocator(), entries.len())?;
-    for entry in entries {
-        copies.push(copy_entry(entry)?)?;
-    }
-    Ok(copies)
-}
-
-fn copy_entry(entry: &Entry) -> Result<Entry, Memory>
-    ensures { IfOk result (λ e. e ≡ entry.now) }
-{
-    Ok(Entry {
-        origin: entry.origin,
-        reach: entry.reach,
-        length: entry.length,
-        forward: copy_row(&entry.forward)?,
-    })
-}
-
-fn copy_row(row: &Option<Sparse>) -> Result<Option<Sparse>, Memory>
-    ensures { IfOk result (λ r. r ≡ row.now) }
-{
-    match row {
-        Some(vector) => Ok(Some(vector.copy()?)),
-        None => Ok(None),
-    }
-}
-
-fn copy_vectors(vectors: &Vec<Sparse>) -> Result<Vec<Sparse>, Memory>
-    ensures { IfOk result (λ copies. copies.items ≡ vectors.now.items) }
-{
-    let mut copies = Vec::with_capacity(*vectors.allocator(), vectors.len())?;
+    let mut copies = Vec::with_capacity(*vectors.allocator(), room)?;
     for vector in vectors {
-        copies.push(vector.copy()?)?;
+        copies.push_reserved(vector.copy()?);
     }
     Ok(copies)
 }

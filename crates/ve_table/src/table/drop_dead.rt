@@ -1,8 +1,12 @@
-ghost use Rattle.std.specs.Prelude.{◌≡◌, ◌<◌, ◌^◌, All, IfOk, IfSome, OnErr, OnOk, filter, length, map};
+ghost use Rattle.std.specs.Prelude.{◌≡◌, ℕ, ◌<◌, ◌≤◌, ◌^◌, ◌↔◌, [], All, IfOk, IfSome, IsTrue, OnErr, OnOk, Some, filter, length, map, slice_index, slice_index_or};
+ghost use Rattle.std.specs.List.{AllWithin};
+ghost use Rattle.ve_theory.specs.Answers.{Row};
 ghost use Rattle.ve_vec.specs.Vectors.{numbered};
+ghost use Rattle.ve_table.specs.Tables.{IsId, row_at};
 ghost use Rattle.ve_table.specs.Sound.{IsSound, NamesLiveIds};
 ghost use Rattle.ve_table.specs.Changes.{without_dead};
-ghost use Rattle.ve_table.specs.Numbers.{AreNumbered, CanNumber, CanNumberEntry, is_live_entry, new_numbers};
+ghost use Rattle.ve_table.specs.Numbers.{AreNumbered, CanNumber, CanNumberEntry, IsNumbered, new_numbers};
+ghost use Rattle.ve_table.specs.Deaths.{is_live_entry};
 
 use crate::Table;
 use crate::bounds::set_bounds;
@@ -19,16 +23,20 @@ impl Table {
         ensures err { OnErr result (self.new ≡ self.old) }
         ensures sound { IsSound self.new }
     {
-        if self.live == self.id_count() {
+        let Some(least) = self.least_dead() else {
             return Ok(());
-        }
+        };
         let letters = self.presentation.weights().len();
-        let numbers = new_numbers(&self.entries)?;
-        keep_live_rows(&mut self.rows, &self.entries, letters);
-        drop_dead_entries(&mut self.entries);
-        renumber_entries(self.entries.as_mut_slice(), &numbers);
-        renumber_vectors(self.rows.as_mut_slice(), &numbers);
-        renumber_vectors(self.images.as_mut_slice(), &numbers);
+        let start = self.first_naming(least) as usize * letters;
+        let numbers = new_numbers(&self.entries, least)?;
+        keep_live_rows(&mut self.rows, &self.entries, letters, least as usize);
+        drop_dead_entries(&mut self.entries, least as usize);
+        self.forwards.clear();
+        // What the forwards took beyond room for those to come is given back.
+        self.forwards.shrink_to(self.live as usize);
+        renumber_entries(self.entries.as_mut_slice(), &numbers, least as usize);
+        renumber_rows(self.rows.as_mut_slice(), start, &numbers, least);
+        renumber_vectors(self.images.as_mut_slice(), &numbers, least);
         set_bounds(
             self.bounds.as_mut_slice(),
             &self.entries,
@@ -37,16 +45,34 @@ impl Table {
         );
         Ok(())
     }
+
+    /// An id below which no row names the given one or a later one, since the row's words are of smaller reach.
+    fn first_naming(&self, id: u32) -> u32
+        requires { IsId self.now id }
+        ensures bound { result ≤ id }
+        ensures below { (b x : ℕ) (v : Row) → b < result → row_at self.now b x ≡ Some v → All (λ t. t.0 < id) v }
+    {
+        ve_theory::order::reaches_are_bounded();
+        self.is_sound();
+        let greatest = u32::from(self.presentation.greatest_weight());
+        let reach = self.reach(id).saturating_sub(greatest);
+        self.first_of_reach(u64::from(reach))
+    }
 }
 
-/// For each id how many live ones are below it.
-fn new_numbers(entries: &Vec<Entry>) -> Result<Vec<u32>, Memory>
-    requires { length entries.now.items < 2 ^ 32 }
+/// For each id how many live ones are below it. The first `least` ids are live.
+fn new_numbers(entries: &Vec<Entry>, least: u32) -> Result<Vec<u32>, Memory>
+    requires count { length entries.now.items < 2 ^ 32 }
+    requires bound { least ≤ length entries.now.items }
+    requires live { AllWithin (λ (e : Entry). e.death ≡ 0) entries.now.items 0 least }
     ensures { IfOk result (λ numbers. numbers.items ≡ new_numbers entries.now.items) }
 {
     let mut numbers = Vec::with_capacity(*entries.allocator(), entries.len())?;
-    let mut number = 0;
-    for entry in entries {
+    for id in 0..least {
+        numbers.push(id)?;
+    }
+    let mut number = least;
+    for entry in &entries[least as usize..] {
         numbers.push(number)?;
         if entry.is_live() {
             number += 1;
@@ -55,26 +81,64 @@ fn new_numbers(entries: &Vec<Entry>) -> Result<Vec<u32>, Memory>
     Ok(numbers)
 }
 
-fn drop_dead_entries(entries: &mut Vec<Entry>)
+/// Takes dead ids away. The first `least` ids are live.
+fn drop_dead_entries(entries: &mut Vec<Entry>, least: usize)
+    requires bound { least ≤ length entries.old.items }
+    requires live { AllWithin (λ (e : Entry). e.death ≡ 0) entries.old.items 0 least }
     ensures { entries.new.items ≡ filter is_live_entry entries.old.items }
 {
-    entries.retain(|entry| entry.is_live());
+    let mut kept = least;
+    for id in least..entries.len() {
+        let entry = entries[id];
+        if entry.is_live() {
+            entries[kept] = entry;
+            kept += 1;
+        }
+    }
+    entries.truncate(kept);
 }
 
-fn renumber_entries(entries: &mut [Entry], numbers: &[u32])
-    requires { All (CanNumberEntry numbers.now) entries.old }
+/// Names parents by their new numbers. Those of the first `least` ids keep theirs.
+fn renumber_entries(entries: &mut [Entry], numbers: &[u32], least: usize)
+    requires parents { All (CanNumberEntry numbers.now) entries.old }
+    requires least { (b : ℕ) (d : Entry) → b < least → IsNumbered numbers.now (slice_index_or entries.old b d) (slice_index_or entries.old b d) }
     ensures { AreNumbered numbers.now entries.old entries.new }
 {
-    for entry in entries {
-        entry.renumber(numbers);
+    for id in least..entries.len() {
+        entries[id].renumber(numbers);
     }
 }
 
-fn renumber_vectors(vectors: &mut [Sparse], numbers: &[u32])
-    requires { All (CanNumber numbers.now) vectors.old }
+/// Names the ids of rows by their new numbers, where those before `start` have ids below `least` alone.
+fn renumber_rows(rows: &mut [Sparse], start: usize, numbers: &[u32], least: u32)
+    requires rows { All (CanNumber numbers.now) rows.old }
+    requires start { (k : ℕ) → k < start → All (λ t. t.0 < least) (slice_index_or rows.old k []) }
+    requires least { (b : ℕ) → b < least → slice_index numbers.now b ≡ b }
+    ensures { rows.new ≡ map (numbered numbers.now) rows.old }
+{
+    let start = start.min(rows.len());
+    renumber_vectors(&mut rows[start..], numbers, least);
+}
+
+/// Names the ids of vectors by their new numbers. Those below `least` keep theirs.
+fn renumber_vectors(vectors: &mut [Sparse], numbers: &[u32], least: u32)
+    requires vectors { All (CanNumber numbers.now) vectors.old }
+    requires least { (b : ℕ) → b < least → slice_index numbers.now b ≡ b }
     ensures { vectors.new ≡ map (numbered numbers.now) vectors.old }
 {
     for vector in vectors {
-        vector.renumber(numbers);
+        if !is_below(vector, least) {
+            vector.renumber(numbers);
+        }
+    }
+}
+
+/// Whether all ids of a vector are below the given one. The first term has the greatest id.
+fn is_below(vector: &Sparse, id: u32) -> bool
+    ensures { IsTrue result ↔ All (λ t. t.0 < id) vector.now }
+{
+    match vector.leading() {
+        Some(term) => term.id < id,
+        None => true,
     }
 }

@@ -29,6 +29,8 @@ impl Table {
         let births = births(alloc, &self.entries, self.presentation.weights(), level)?;
         let letters = self.presentation.weights().len();
         let ids = self.entries.len();
+        // No id is dead, so no forward has to move into the larger room.
+        let forwards = Vec::with_capacity(alloc, ids + births.len())?;
         self.entries.reserve(births.len())?;
         take_places(&mut self.rows, ids * letters)?;
         set_units(
@@ -45,6 +47,7 @@ impl Table {
             self.presentation.weights(),
             level,
         );
+        self.forwards = forwards;
         self.live += births.len() as u32;
         self.level = level;
         Ok(())

@@ -30,6 +30,7 @@ impl Table {
             reaches,
             level: 0,
             entries: root_entries(alloc, roots)?,
+            forwards: Vec::with_capacity(alloc, usize::from(roots))?,
             rows: Vec::new(alloc),
             bounds: no_bounds(alloc, letters)?,
             live: u32::from(roots),

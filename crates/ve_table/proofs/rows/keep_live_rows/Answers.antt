@@ -2,14 +2,15 @@ use Rattle.std.proofs.Common.{◌≡◌, ℕ, List, get_or, ap, sym, subst, ◌�
 use Rattle.std.proofs.lemmas.List.{with_items_is}
 use Rattle.ve_theory.specs.Answers.{Row}
 use Rattle.ve_table.specs.declared.entry.Entry.{Entry}
-use Rattle.ve_table.specs.Numbers.{is_live_entry}
+use Rattle.ve_table.specs.Deaths.{is_live_entry}
 use Rattle.ve_table.specs.Rows.{AreLiveRows, AreMoved}
+use Rattle.ve_table.proofs.Deaths.{no_entry}
 use Rattle.ve_table.proofs.LiveRows.{start, finish, step_dead, step_live, stays}
 use Rattle.ve_table.proofs.rows.keep_live_rows.Goals as goal
 use Rattle.ve_table.proofs.rows.keep_live_rows.Goals.{then-is_live, then-kept-id, else-kept-id, else-is_live}
 
 pub loop-id-init : goal.loop-id-init
-loop-id-init c = start c.args.letters c.args.entries.now c.args.rows.now.items
+loop-id-init c = start c.args.letters c.args.entries.now c.args.rows.now.items c.args.least c.requires.bound c.requires.live
 
 pub loop-id-preserved : goal.loop-id-preserved
 loop-id-preserved c =
@@ -18,9 +19,9 @@ loop-id-preserved c =
     let i : ℕ = c.loop-id.id in
     let k : ℕ = c.loop-id.kept in
     let now : List Row = c.loop-id.rows.items in
-    let d : Entry = c.index-entries-id.result in
+    let d : Entry = no_entry in
     let so_far = c.loop-id.invariant in
-    let here : is_live_entry (get_or es i d) ≡ c.is_live.result = ap is_live_entry (sym c.index-entries-id.is) ∙ sym c.is_live.ensures.value in
+    let here : is_live_entry (get_or es i d) ≡ c.is_live.result = sym c.is_live.ensures.value in
     elim c.if-is_live.branch [
       | then-is_live w ↦
           let moved : AreMoved n i k now w.if-kept-id.rows.items = elim w.if-kept-id.branch [

@@ -1,5 +1,6 @@
 use Rattle.std.proofs.Common.{arith}
 use Rattle.ve_table.specs.Births.{same, product_of}
+use Rattle.ve_table.proofs.Deaths.{no_entry}
 use Rattle.ve_table.proofs.Comparing.{length_at, begins_through, shorter_begins, shorter_length}
 use Rattle.ve_table.proofs.birth.order.prefix.Goals as goal
 
@@ -13,7 +14,7 @@ loop-word-preserved c =
     let is = c.in-Some.ensures.some in
     record {
       parent = omega (arith, is.earlier, i.parent);
-      long = omega (arith, c.loop-word-test.true, length_at es c.loop-word.word.parent c.index-entries-word.result c.requires.book i.parent, shorter_length es c.loop-word.word c.in-Some.shorter is);
+      long = omega (arith, c.loop-word-test.true, length_at es c.loop-word.word.parent no_entry c.requires.book i.parent, shorter_length es c.loop-word.word c.in-Some.shorter is);
       begins = begins_through (product_of es c.in-Some.shorter) (product_of es c.loop-word.word) (product_of es c.args.word) (shorter_begins es c.loop-word.word c.in-Some.shorter is) i.begins;
     }
 
@@ -23,6 +24,6 @@ returns c =
     let i = c.loop-word.invariant in
     record {
       parent = i.parent;
-      count = omega (arith, i.long, c.loop-word-test.false, length_at es c.loop-word.word.parent c.index-entries-word.result c.requires.book i.parent);
+      count = omega (arith, i.long, c.loop-word-test.false, length_at es c.loop-word.word.parent no_entry c.requires.book i.parent);
       begins = i.begins;
     }

@@ -26,21 +26,22 @@ births-requires-clause-book c =
 
 -- where room is missing
 
-room_view : (c : goal.After-drop-births-in_err-take_places) → tabled c.self.inside.presentation c.self.inside.level c.self.inside.images.items c.self.inside.bounds.items c.take_places.new.rows.items c.reserve.new.self.items ≡ table_of c.self.inside
+room_view : (c : goal.After-drop-births-in_err-take_places) → tabled c.self.inside.presentation c.self.inside.level c.self.inside.images.items c.self.inside.bounds.items c.take_places.new.rows.items c.self.inside.forwards.items c.reserve.new.self.items ≡ table_of c.self.inside
 room_view c =
-    ap (λ l. tabled c.self.inside.presentation c.self.inside.level c.self.inside.images.items c.self.inside.bounds.items c.take_places.new.rows.items l) c.reserve.ensures.items
+    ap (λ l. tabled c.self.inside.presentation c.self.inside.level c.self.inside.images.items c.self.inside.bounds.items c.take_places.new.rows.items c.self.inside.forwards.items l) c.reserve.ensures.items
     ∙ same_view c.self.inside c.self.invariant c.take_places.new.rows.items c.take_places.ensures.same
 
 pub invariant_of-self : goal.invariant_of-self
 invariant_of-self c =
     kept_with_room c.self.inside _ c.self.invariant c.self.invariant.few_places (omega arith) (λ k. refl) refl c.reserve.ensures.items refl
-    (ap (λ l. tabled c.self.inside.presentation c.self.inside.level c.self.inside.images.items c.self.inside.bounds.items c.self.inside.rows.items l) c.reserve.ensures.items) refl c.self.invariant.own_reaches
+    (ap (λ l. tabled c.self.inside.presentation c.self.inside.level c.self.inside.images.items c.self.inside.bounds.items c.self.inside.rows.items c.self.inside.forwards.items l) c.reserve.ensures.items) refl refl
+    c.self.invariant.own_forwards.room c.self.invariant.own_reaches
 
 pub invariant_of-self-in_err-take_places : goal.invariant_of-self-in_err-take_places
 invariant_of-self-in_err-take_places c =
     kept_with_room c.self.inside _ c.self.invariant
     (few_taken c.self.inside c.self.invariant c.len-ids.result c.len-letters.result (c.len-ids.ensures ∙ c.self.inside.entries.ok.0) (c.len-letters.ensures ∙ c.weights-2.result.now.ok.0 ∙ ap length c.weights-2.ensures) c.take_places.new.rows.items c.take_places.ensures.within c.take_places.ensures.same)
-    c.take_places.ensures.kept c.take_places.ensures.same refl c.reserve.ensures.items refl (room_view c) refl c.self.invariant.own_reaches
+    c.take_places.ensures.kept c.take_places.ensures.same refl c.reserve.ensures.items refl (room_view c) refl refl c.self.invariant.own_forwards.room c.self.invariant.own_reaches
 
 on_err : {T E P : Type 0} (r : Result T E) → P → OnErr r P
 on_err (Ok x) p = tt
@@ -109,7 +110,7 @@ set_bounds-requires-clause-count c =
     let fewer : next_count (table_of c.self.inside) < 2 ^ 32 = subst (λ T. next_count T < 2 ^ 32) (sym c.self.view_is) c.requires.ids in
     omega (arith, ap length (entries_bounded c), count_born (c.self.inside.level + 1) c.in_ok-births.births.items c.self.inside.entries.items, ids_fit c.self.inside c.in_ok-births.births.items (step_bounded c), fewer)
 
-step_counted : (c : goal.After-len-2) → IsStep c.self.inside c.in_ok-births.births.items
+step_counted : (c : goal.After-len-3) → IsStep c.self.inside c.in_ok-births.births.items
 step_counted c =
     step_is c.self.inside c.deref-2.result.now c.deref.result.now c.in_ok-births.births.items c.self.invariant
     (subst (λ T. All (λ f. f ≡ None) T.forwards) (sym c.self.view_is) c.requires.live) (c.deref-2.ensures.value ∙ c.weights.ensures) c.deref.ensures.value c.in_ok-births.ensures
@@ -117,13 +118,13 @@ step_counted c =
 pub overflow_cast-self : goal.overflow_cast-self
 overflow_cast-self c =
     let fewer : next_count (table_of c.self.inside) < 2 ^ 32 = subst (λ T. next_count T < 2 ^ 32) (sym c.self.view_is) c.requires.ids in
-    omega (arith, ids_fit c.self.inside c.in_ok-births.births.items (step_counted c), fewer, c.len-2.ensures, c.in_ok-births.births.ok.0)
+    omega (arith, ids_fit c.self.inside c.in_ok-births.births.items (step_counted c), fewer, c.len-3.ensures, c.in_ok-births.births.ok.0)
 
 pub overflow_add-self : goal.overflow_add-self
 overflow_add-self c =
     let fewer : next_count (table_of c.self.inside) < 2 ^ 32 = subst (λ T. next_count T < 2 ^ 32) (sym c.self.view_is) c.requires.ids in
     let all : c.self.inside.live ≡ length (table_of c.self.inside).words = c.self.invariant.live_count ∙ ap length (all_words_live c.self.inside c.self.invariant (step_counted c).live) in
-    omega (arith, ids_fit c.self.inside c.in_ok-births.births.items (step_counted c), fewer, c.len-2.ensures, c.in_ok-births.births.ok.0, all, one_entry_each c.self.inside c.self.invariant)
+    omega (arith, ids_fit c.self.inside c.in_ok-births.births.items (step_counted c), fewer, c.len-3.ensures, c.in_ok-births.births.ok.0, all, one_entry_each c.self.inside c.self.invariant)
 
 -- after the step
 
@@ -165,11 +166,11 @@ news_are c =
     (sym (with_items_is c.self.inside.bounds c.set_bounds.new.bounds (is.count ∙ c.self.invariant.sound.valid.presentation.one_weight_each ∙ sym c.self.invariant.one_bound_each ∙ sym c.self.inside.bounds.ok.0))) is
 
 view : (c : goal.After-drop-births-2) →
-    tabled c.self.inside.presentation (c.self.inside.level + 1) c.self.inside.images.items (with_items c.self.inside.bounds c.set_bounds.new.bounds).items (with_items c.take_places.new.rows c.set_units.new.rows).items c.add_entries.new.entries.items
+    tabled c.self.inside.presentation (c.self.inside.level + 1) c.self.inside.images.items (with_items c.self.inside.bounds c.set_bounds.new.bounds).items (with_items c.take_places.new.rows c.set_units.new.rows).items c.in_ok-forwards.forwards.items c.add_entries.new.entries.items
     ≡ with_births (table_of c.self.inside) c.in_ok-births.births.items
 view c =
     step_view c.self.inside c.in_ok-births.births.items (step c) c.levels_grow.ensures (bounds c) (with_items c.self.inside.bounds c.set_bounds.new.bounds).items (news_are c) c.take_places.new.rows.items (places c)
-    (with_items c.take_places.new.rows c.set_units.new.rows).items c.add_entries.new.entries.items (units_are c) (entries_are c)
+    (with_items c.take_places.new.rows c.set_units.new.rows).items c.in_ok-forwards.forwards.items c.add_entries.new.entries.items (units_are c) c.in_ok-forwards.ensures.items (entries_are c)
 
 pub returns-clause-ok : goal.returns-clause-ok
 returns-clause-ok c =
@@ -182,4 +183,5 @@ returns-clause-sound c = subst IsSound (sym (view c)) (step_sound c.self.inside 
 pub invariant_of-self-2 : goal.invariant_of-self-2
 invariant_of-self-2 c =
     step_kept c.self.inside c.in_ok-births.births.items (step c) c.levels_grow.ensures (bounds c) (with_items c.self.inside.bounds c.set_bounds.new.bounds).items (news_are c) c.take_places.new.rows.items (places c) _
-    (subst (λ T. next_count T < 2 ^ 32) (sym c.self.view_is) c.requires.ids) (units_are c) refl (entries_are c) (view c) refl (ap (λ n. c.self.inside.live + n) (c.len-2.ensures ∙ c.in_ok-births.births.ok.0)) refl
+    (subst (λ T. next_count T < 2 ^ 32) (sym c.self.view_is) c.requires.ids) (units_are c) refl (entries_are c) (view c) refl (ap (λ n. c.self.inside.live + n) (c.len-3.ensures ∙ c.in_ok-births.births.ok.0)) c.in_ok-forwards.ensures.items
+    (c.in_ok-forwards.ensures.exact ∙ ap₂ (λ m n. m + n) (c.len-ids.ensures ∙ c.self.inside.entries.ok.0) (c.len.ensures ∙ c.in_ok-births.births.ok.0)) refl

@@ -12,13 +12,13 @@ returns-then-self-id_count-clause-none c =
 pub returns-in_err-least-clause-none : goal.returns-in_err-least-clause-none
 returns-in_err-least-clause-none c =
     rw (← c.self.view_is, c.from_residual.ensures)
-    (none_first (table_of c.self.inside).forwards (sym (first_is _ _ _ c.deref.ensures.value c.first_dead.ensures) ∙ c.in_err-least.was))
+    (none_first (table_of c.self.inside).forwards (sym (first_is c.self.inside.forwards.items _ _ _ c.deref.ensures.value c.first_dead.ensures) ∙ c.in_err-least.was))
 
 pub returns-clause-dead : goal.returns-clause-dead
 returns-clause-dead c =
-    rw (← c.self.view_is) (dead_first (table_of c.self.inside).forwards c.in_ok-least.least (sym (first_is _ _ _ c.deref.ensures.value c.first_dead.ensures) ∙ c.in_ok-least.was))
+    rw (← c.self.view_is) (dead_first (table_of c.self.inside).forwards c.in_ok-least.least (sym (first_is c.self.inside.forwards.items _ _ _ c.deref.ensures.value c.first_dead.ensures) ∙ c.in_ok-least.was))
 
 pub returns-clause-least : goal.returns-clause-least
 returns-clause-least c =
     rw (← c.self.view_is)
-    (λ b lt. live_before (table_of c.self.inside).forwards c.in_ok-least.least b (sym (first_is _ _ _ c.deref.ensures.value c.first_dead.ensures) ∙ c.in_ok-least.was) lt)
+    (λ b lt. live_before (table_of c.self.inside).forwards c.in_ok-least.least b (sym (first_is c.self.inside.forwards.items _ _ _ c.deref.ensures.value c.first_dead.ensures) ∙ c.in_ok-least.was) lt)

@@ -25,5 +25,6 @@ invariant_of-self c =
       one_bound_each = c.self.invariant.one_bound_each;
       bounds = c.self.invariant.bounds;
       live_count = c.self.invariant.live_count;
+      own_forwards = c.self.invariant.own_forwards;
       own_reaches = c.self.invariant.own_reaches;
     }

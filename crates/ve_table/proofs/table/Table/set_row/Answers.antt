@@ -25,7 +25,7 @@ place : (c : goal.Joined-index_mut-row) → c.args.id * c.len-letters.result + c
 place c = set_place c.self.inside c.self.invariant c.args.id c.args.letter c.len-letters.result c.from.result (c.len-letters.ensures ∙ c.weights.result.now.ok.0 ∙ ap length c.weights.ensures) c.from.ensures
 
 same : (c : goal.Joined-index_mut-row) →
-    tabled c.self.inside.presentation c.self.inside.level c.self.inside.images.items c.self.inside.bounds.items (set c.self.inside.rows.items (c.args.id * c.len-letters.result + c.from.result) c.args.row) c.self.inside.entries.items
+    tabled c.self.inside.presentation c.self.inside.level c.self.inside.images.items c.self.inside.bounds.items (set c.self.inside.rows.items (c.args.id * c.len-letters.result + c.from.result) c.args.row) c.self.inside.forwards.items c.self.inside.entries.items
     ≡ with_row (table_of c.self.inside) c.args.id c.args.letter c.args.row
 same c =
     row_set c.self.inside c.self.invariant c.args.id c.args.letter (c.args.id * c.len-letters.result + c.from.result) c.args.row
@@ -39,4 +39,4 @@ returns-clause-sound c = subst IsSound (sym (same c)) (sound_rowed (table_of c.s
 
 pub invariant_of-self : goal.invariant_of-self
 invariant_of-self c =
-    kept_with_row c.self.inside _ c.self.invariant c.args.id c.args.letter (c.args.id * c.len-letters.result + c.from.result) c.args.row (place c) (there c) (its_row c) (same c) refl refl refl refl refl refl
+    kept_with_row c.self.inside _ c.self.invariant c.args.id c.args.letter (c.args.id * c.len-letters.result + c.from.result) c.args.row (place c) (there c) (its_row c) (same c) refl refl refl refl refl refl refl
