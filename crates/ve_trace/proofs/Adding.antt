@@ -1,7 +1,10 @@
 -- Sums of vectors, as they are added up.
-use Rattle.std.proofs.Common.{ℕ, ◌<◌, nat_eq, ◌++◌}
+use Rattle.std.proofs.Common.{◌≡◌, ℕ, ◌+◌, ◌*◌, ◌<◌, nat_eq, [], ◌∷◌, ◌++◌, take, Some, slice_get, sym, ap, subst, ◌∙◌, arith}
+use Rattle.std.proofs.lemmas.List.{take_more, append-nil}
+use Rattle.std.proofs.lemmas.Option.{get_or_from_slice_get, slice_get_within}
 use Rattle.ve_theory.specs.Combinations.{Combination, scaled, IsReduced, IsReducedOf}
-use Rattle.ve_theory.proofs.Sums.{SameWeights, SameWeights-refl, SameWeights-sym, SameWeights-trans, SameWeights-append, SameWeights-scaled, scaled-one, Alike_from_weights, weights_from_Alike, Decides-nat_eq}
+use Rattle.ve_theory.proofs.DerivedElements.{SameWeights-equal}
+use Rattle.ve_theory.proofs.Sums.{weigh-append, weigh-scaled, SameWeights, SameWeights-refl, SameWeights-sym, SameWeights-trans, SameWeights-append, SameWeights-scaled, scaled-one, Alike_from_weights, weights_from_Alike, Decides-nat_eq}
 
 pub weights_of : {p : ℕ} {v e : Combination ℕ} → IsReducedOf ◌<◌ nat_eq p v e → SameWeights p v e
 weights_of {p} {v} {e} h = weights_from_Alike nat_eq Decides-nat_eq p v e h.alike
@@ -29,3 +32,29 @@ added_once {p} {s} {v} {e} {f} {r} sum vector result =
 -- once the vector is itself
 pub once : {p : ℕ} {v : Combination ℕ} → IsReduced ◌<◌ p v → IsReducedOf ◌<◌ nat_eq p v (scaled 1 v)
 once {p} {v} reduced = reduced_by reduced (SameWeights-sym (scaled-one p v))
+
+-- the terms of a vector are added one after another
+
+pub nothing_added : {p : ℕ} (c : ℕ) {s : Combination ℕ} (v : Combination ℕ) → IsReduced ◌<◌ p s → IsReducedOf ◌<◌ nat_eq p s (s ++ scaled c (take 0 v))
+unfolding scaled
+nothing_added {p} c {s} v reduced = subst (IsReducedOf ◌<◌ nat_eq p s) (sym (append-nil s)) (itself reduced)
+
+pub term_added : {p : ℕ} (c : ℕ) (s : Combination ℕ) {u r : Combination ℕ} (v : Combination ℕ) (at : ℕ) (t : ℕ × ℕ) → slice_get v at ≡ Some t
+    → IsReducedOf ◌<◌ nat_eq p u (s ++ scaled c (take at v)) → IsReducedOf ◌<◌ nat_eq p r (u ++ scaled c (t ∷ []))
+    → IsReducedOf ◌<◌ nat_eq p r (s ++ scaled c (take (at + 1) v))
+term_added {p} c s {u} {r} v at t is sum result =
+    let more : take (at + 1) v ≡ take at v ++ t ∷ [] =
+    take_more v at t (slice_get_within v at t is) ∙ ap (λ w. take at v ++ w ∷ []) (get_or_from_slice_get v at t t is) in
+    let both : SameWeights p ((s ++ scaled c (take at v)) ++ scaled c (t ∷ [])) (s ++ scaled c (take at v ++ t ∷ [])) =
+    SameWeights-equal (λ h. omega (
+      arith,
+      weigh-append h (s ++ scaled c (take at v)) (scaled c (t ∷ [])),
+      weigh-append h s (scaled c (take at v)),
+      weigh-append h s (scaled c (take at v ++ t ∷ [])),
+      weigh-scaled h c (take at v),
+      weigh-scaled h c (t ∷ []),
+      weigh-scaled h c (take at v ++ t ∷ []),
+      ap (λ n. c * n) (weigh-append h (take at v) (t ∷ [])),
+    )) in
+    subst (λ w. IsReducedOf ◌<◌ nat_eq p r (s ++ scaled c w)) (sym more)
+    (onto result (SameWeights-trans (SameWeights-append (weights_of sum) (SameWeights-refl p (scaled c (t ∷ [])))) both))

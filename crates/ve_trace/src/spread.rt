@@ -12,6 +12,9 @@ use ve_vec::{Rows, Sparse};
 /// How many ids of the span there may be for each term of the rows.
 const IDS_A_TERM: u32 = 4;
 
+/// Up to how many terms find their places in a sum soon, wherever they lie.
+const FEW_TERMS: usize = 64;
+
 /// Where the ids of some rows lie, and how many terms they have.
 #[derive(Drop)]
 pub(crate) struct Spread {
@@ -56,6 +59,11 @@ impl Spread {
         ensures { IsTrue result → self.now.low ≤ self.now.high }
     {
         self.low <= self.high && ((self.high - self.low) / IDS_A_TERM) as usize <= self.terms
+    }
+
+    /// Whether the terms are so few that adding one row after another costs less than adding up halves.
+    pub(crate) fn has_few_terms(&self) -> bool {
+        self.terms <= FEW_TERMS
     }
 
     /// Takes one more row in.

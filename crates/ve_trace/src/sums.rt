@@ -1,7 +1,7 @@
 //! Sums of the rows that the ids of a vector have at a letter.
 
-ghost use Rattle.std.specs.Prelude.{◌≡◌, ◌≢◌, ◌<◌, ◌≤◌, None, Some, IfOk, length, nat_eq};
-ghost use Rattle.ve_theory.specs.Combinations.{IsReduced, IsReducedOf};
+ghost use Rattle.std.specs.Prelude.{◌≡◌, ◌≢◌, ◌<◌, ◌≤◌, ◌++◌, None, Some, IfOk, OnOk, length, nat_eq};
+ghost use Rattle.ve_theory.specs.Combinations.{scaled, IsReduced, IsReducedOf};
 ghost use Rattle.ve_vec.specs.Tracing.{AreReduced, vector_times};
 ghost use Rattle.ve_trace.specs.Parts.{AreRowsBetween, HasRows, part};
 
@@ -14,9 +14,12 @@ use ve_word::Memory;
 /// Up to how many rows are added one after another, whether they overlap or not.
 const FEW: usize = 8;
 
+/// Up to how many terms a row is short.
+const SHORT: usize = 4;
+
 /// The sum of the rows at a letter that the ids of some terms have, each times its coefficient. Many rows that overlap are added
-/// up over the span of their ids where that is not much longer than they are. Else halves are added up first, since each addition
-/// costs the length of the sum.
+/// up over the span of their ids where that is not much longer than they are. Else halves are added up first unless the terms are
+/// few, since each addition costs the length of the sum.
 pub(crate) fn sum_of_rows<R: Rows>(
     alloc: Global,
     rows: &R,
@@ -42,6 +45,9 @@ pub(crate) fn sum_of_rows<R: Rows>(
     }
     if spread.is_dense() {
         return sum_over_span(alloc, rows, field, vector, letter, from, to, &spread);
+    }
+    if spread.has_few_terms() {
+        return sum_in_order(alloc, rows, field, vector, letter, from, to);
     }
     let middle = from + (to - from) / 2;
     let mut sum = sum_of_rows(alloc, rows, field, vector, letter, from, middle)?;
@@ -70,9 +76,26 @@ fn sum_in_order<R: Rows>(
     let mut sum = Sparse::zero(alloc);
     for at in from..to {
         let term = vector.term(at);
-        sum.add_scaled(field, term.coef, row_at(rows, term.id, letter))?;
+        add_row(&mut sum, field, term.coef, row_at(rows, term.id, letter))?;
     }
     Ok(sum)
+}
+
+/// Adds `by` times a row. The terms of a short one find their places without a new list.
+fn add_row(sum: &mut Sparse, field: &Field, by: u8, row: &Sparse) -> Result<(), Memory>
+    requires fits { IsReduced ◌<◌ field.now sum.old }
+    requires row_fits { IsReduced ◌<◌ field.now row.now }
+    requires residue { by < field.now }
+    ensures { OnOk result (IsReducedOf ◌<◌ nat_eq field.now sum.new (sum.old ++ scaled by row.now)) }
+{
+    if row.len() > SHORT {
+        sum.add_scaled(field, by, row)?;
+        return Ok(());
+    }
+    for at in 0..row.len() {
+        sum.add_scaled_term(field, by, row.term(at))?;
+    }
+    Ok(())
 }
 
 /// The same, where the rows are added up over the span of their ids.
