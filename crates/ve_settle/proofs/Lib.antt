@@ -10,6 +10,7 @@ pub mod WordVectors
 pub mod Rewriting
 pub mod Images
 pub mod Resolving
+pub mod Clearing
 pub mod UniqueResolutions
 pub mod Vanishing
 pub mod LiveWords

@@ -1,8 +1,7 @@
 -- The words of the live ids, and what a finished table says of them.
-use Rattle.std.proofs.Common.{◌≡◌, ℕ, zero, suc, ◌+◌, ◌<◌, ◌≤◌, Some, None, List, [], ◌∷◌, length, get_or, All, refl, ap, subst, ◌∙◌, add-one, arith}
+use Rattle.std.proofs.Common.{◌≡◌, ℕ, zero, suc, ◌+◌, ◌<◌, ◌≤◌, Some, None, List, [], ◌∷◌, length, get_or, refl, subst, ◌∙◌, add-one, arith}
 use Rattle.std.specs.Prelude.{Option, ◌↔◌, slice_get, sum_by}
 use Rattle.std.proofs.lemmas.List.{get_or_default}
-use Rattle.std.proofs.lemmas.List.Elements.{All-head, All-tail}
 use Rattle.std.proofs.lemmas.Option.{slice_get_within}
 use Rattle.ve_theory.specs.Words.{Word, generator}
 use Rattle.ve_theory.specs.Presentations.{reach}
@@ -10,7 +9,7 @@ use Rattle.ve_theory.specs.Levels.{Lists, IsNormal, HasSize, steps_to}
 use Rattle.ve_theory.specs.Answers.{Row}
 use Rattle.ve_theory.specs.Laws.{FinishedLevelsSettle, IsTotalOrder}
 use Rattle.ve_table.specs.Tables.{ActionTable, presented, word_at, IsId, IsLive, of_live, live_words}
-use Rattle.ve_machine.specs.Finished.{IsFinishedTable, IsPacked}
+use Rattle.ve_machine.specs.Finished.{IsFinishedTable}
 use Rattle.ve_settle.specs.NormalWords.{SettlesTable}
 use Rattle.ve_settle.proofs.Order.{lower_reach}
 

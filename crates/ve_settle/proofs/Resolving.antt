@@ -1,17 +1,14 @@
 -- Terms in which dead ids are replaced, from the greatest id down.
-use Rattle.std.proofs.Common.{◌≡◌, ℕ, ◌+◌, ◌<◌, ◌≤◌, Bool, true, ltb, Some, None, [], ◌∷◌, length, All, IsTrue, subst, arith}
+use Rattle.std.proofs.Common.{◌≡◌, ℕ, ◌+◌, ◌<◌, ◌≤◌, Bool, true, ltb, Some, [], ◌∷◌, length, All, IsTrue, arith}
 use Rattle.std.specs.Prelude.{slice_get}
 use Rattle.std.proofs.lemmas.Bool.{ltb-true, lt-ltb}
-use Rattle.std.proofs.lemmas.Option.{slice_get_within}
 use Rattle.std.proofs.lemmas.List.Elements.{All-nil, All-cons, All-head, All-tail, All-weaker}
-use Rattle.ve_theory.specs.Combinations.{Combination, difference, unit, IsReduced}
+use Rattle.ve_theory.specs.Combinations.{Combination, IsReduced}
 use Rattle.ve_theory.specs.Presentations.{greatest_of}
 use Rattle.ve_theory.specs.Answers.{Row, IsRow}
-use Rattle.ve_theory.specs.Derivations.{DerivedWithin}
-use Rattle.ve_theory.proofs.Sums.{SameWeights-refl, extended-difference}
-use Rattle.ve_theory.proofs.DerivedElements.{DerivedWithin-alike}
+use Rattle.ve_theory.proofs.Sums.{SameWeights-refl}
 use Rattle.ve_vec.specs.Vectors.{AllIds}
-use Rattle.ve_table.specs.Tables.{ActionTable, presented, word_at, element_of, IsLive}
+use Rattle.ve_table.specs.Tables.{ActionTable, presented}
 use Rattle.ve_table.specs.Sound.{IsSound, HasLiveIds}
 use Rattle.ve_machine.specs.Forwards.{IsResolved}
 use Rattle.ve_machine.proofs.Forwardings.{positive_prime, nothing_forwarded}
@@ -60,10 +57,11 @@ ceiling_falls i old new taken below = omega (arith, ceiling_below i new below, l
 pub live_row : (T : ActionTable) → IsSound T → (w : Row) → IsReduced ◌<◌ (presented T).prime w → HasLiveIds T w → IsRow (presented T).prime (length T.words) w
 live_row T sound w reduced live = (reduced, live_within T sound w live)
 
-pub bounded : (T : ActionTable) → IsSound T → (v w : Row) → ((among : ℕ → Bool) → IsKept T among → AllIds among v → AllIds among w) → (bound : ℕ) → All (λ t. t.0 ≤ bound) v → All (λ t. t.0 ≤ bound) w
+pub bounded : (T : ActionTable) → IsSound T → (v w : Row) → ((n : ℕ) → IsKept T (λ k. ltb k n) → AllIds (λ k. ltb k n) v → AllIds (λ k. ltb k n) w)
+    → (bound : ℕ) → All (λ t. t.0 ≤ bound) v → All (λ t. t.0 ≤ bound) w
 bounded T sound v w kept bound all =
     All-weaker (λ (t : ℕ × ℕ). t.0 < bound + 1) (λ (t : ℕ × ℕ). t.0 ≤ bound) (λ t less. omega (arith, less)) w
-    (below_by_test (bound + 1) w (kept (λ k. ltb k (bound + 1)) (bound_kept T sound (bound + 1))
+    (below_by_test (bound + 1) w (kept (bound + 1) (bound_kept T sound (bound + 1))
     (tested_below (bound + 1) v (All-weaker (λ (t : ℕ × ℕ). t.0 ≤ bound) (λ (t : ℕ × ℕ). t.0 < bound + 1) (λ t le. omega (arith, le)) v all))))
 
 -- a vector of live ids is its own

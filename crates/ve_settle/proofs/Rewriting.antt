@@ -10,7 +10,7 @@ use Rattle.ve_theory.specs.Laws.{IsTotalOrder}
 use Rattle.ve_theory.proofs.Sums.{Alike_from_weights, SameWeights-refl, SameWeights-sym, SameWeights-difference, extended-difference}
 use Rattle.ve_theory.proofs.Remainders.{All-extended}
 use Rattle.ve_theory.proofs.DerivedElements.{DerivedWithin-alike}
-use Rattle.ve_table.specs.Tables.{ActionTable, presented, word_at, row_at, element_of}
+use Rattle.ve_table.specs.Tables.{ActionTable, presented, word_at, row_at}
 use Rattle.ve_table.specs.Sound.{IsSound, IsRowOf, HasLiveIds}
 use Rattle.ve_table.specs.Changes.{with_row}
 use Rattle.ve_machine.specs.Forwards.{stand_in, IsRewritten}

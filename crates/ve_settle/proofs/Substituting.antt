@@ -1,10 +1,9 @@
 -- A vector with each id replaced by what stands for it, term by term.
-use Rattle.std.proofs.Common.{◌≡◌, ℕ, ◌<◌, nat_eq, [], ◌∷◌, ◌++◌, sym, ap, ◌∙◌, append_assoc, append-nil, arith}
-use Rattle.ve_theory.specs.Combinations.{scaled, extended, IsReducedOf}
+use Rattle.std.proofs.Common.{◌≡◌, ℕ, [], ◌∷◌, ◌++◌, sym, ap, ◌∙◌, append_assoc, append-nil, arith}
+use Rattle.ve_theory.specs.Combinations.{scaled, extended}
 use Rattle.ve_theory.specs.Answers.{Row}
-use Rattle.ve_theory.proofs.Sums.{weigh-append, SameWeights, SameWeights-refl, SameWeights-sym, SameWeights-trans, SameWeights-append, SameWeights_of, Alike_from_weights, extended-append, scaled-one}
+use Rattle.ve_theory.proofs.Sums.{weigh-append, SameWeights, SameWeights-refl, SameWeights-sym, SameWeights-trans, SameWeights-append, SameWeights_of, extended-append}
 use Rattle.ve_theory.proofs.DerivedElements.{SameWeights-equal}
-use Rattle.ve_machine.proofs.ReducedSums.{reduced_same}
 
 -- a combination of f, one term longer
 module _ (p : ℕ) (f : ℕ → Row) (part next : Row) (i a : ℕ) (next_is : next ≡ part ++ (i, a) ∷ []) where
@@ -27,12 +26,3 @@ module _ (p : ℕ) (f : ℕ → Row) (part next : Row) (i a : ℕ) (next_is : ne
       (SameWeights-trans (SameWeights-equal (λ h. weigh-append h (left ++ scaled a by) right ∙ omega (arith, weigh-append h left (scaled a by), weigh-append h left right, weigh-append h (left ++ right) (scaled a by))))
       (SameWeights-trans (SameWeights_of (ap (λ w. (left ++ right) ++ scaled a w) (sym by_is)))
       (SameWeights-trans (SameWeights-append same (SameWeights-refl p (scaled a (f i)))) longer)))
-
--- both parts make the sum
-pub joined : (p : ℕ) (left right new e : Row) → SameWeights p (left ++ right) e → IsReducedOf ◌<◌ nat_eq p new (left ++ scaled 1 right) → IsReducedOf ◌<◌ nat_eq p new e
-joined p left right new e same new_is = record {
-  reduced = new_is.reduced;
-  alike = Alike_from_weights nat_eq
-      (SameWeights-trans (reduced_same p new (left ++ scaled 1 right) new_is)
-      (SameWeights-trans (SameWeights-append (SameWeights-refl p left) (scaled-one p right)) same));
-}

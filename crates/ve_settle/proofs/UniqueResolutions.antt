@@ -1,5 +1,5 @@
 -- A vector has at most one resolved form.
-use Rattle.std.proofs.Common.{◌≡◌, ℕ, ◌<◌, nat_eq, [], length, All, subst, arith}
+use Rattle.std.proofs.Common.{◌≡◌, ℕ, ◌<◌, nat_eq, [], length, subst, arith}
 use Rattle.std.specs.Prelude.{◌↔◌}
 use Rattle.std.proofs.lemmas.List.Elements.{All-nil}
 use Rattle.ve_theory.specs.Combinations.{unit, difference, extended, IsReduced}

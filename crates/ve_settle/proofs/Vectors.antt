@@ -1,13 +1,9 @@
 -- Vectors, walked along from term to term.
-use Rattle.std.proofs.Common.{◌≡◌, ℕ, zero, suc, ◌+◌, ◌%◌, ◌<◌, Bool, true, false, nat_eq, Some, [], ◌∷◌, ◌++◌, take, All, refl, sym, ap, ap₂, ◌∙◌, add-one, arith, subst, mod-eq_of_lt}
+use Rattle.std.proofs.Common.{◌≡◌, ℕ, zero, suc, ◌+◌, ◌<◌, Some, [], ◌∷◌, ◌++◌, take, All, ap, add-one, subst}
 use Rattle.std.specs.Prelude.{slice_get}
-use Rattle.std.proofs.Math.Nat.{zero-mod}
-use Rattle.std.proofs.lemmas.Bool.{cond-false}
-use Rattle.std.proofs.lemmas.List.Elements.{All-get_or, All-head, All-tail, All-weaker}
+use Rattle.std.proofs.lemmas.List.Elements.{All-get_or}
 use Rattle.std.proofs.lemmas.Option.{slice_get_within, get_or_from_slice_get}
-use Rattle.ve_theory.specs.Combinations.{Combination, coefficient, IsReduced, IsReducedOf}
-use Rattle.ve_theory.proofs.Sums.{SameWeights, weights_from_Alike, Decides-nat_eq}
-use Rattle.ve_theory.proofs.Reduced.{below_strict, coefficients-reduced}
+use Rattle.ve_theory.specs.Combinations.{Combination, IsReduced}
 
 -- one term more
 pub part_more : (v : Combination ℕ) (i : ℕ) (t : ℕ × ℕ) → slice_get v i ≡ Some t → take (i + 1) v ≡ take i v ++ t ∷ []

@@ -1,18 +1,14 @@
 -- What can stand in the place of a product's or a generator's vector.
-use Rattle.std.proofs.Common.{◌≡◌, ℕ, ◌<◌, ◌≤◌, inl, inr, [], ◌∷◌, length, All, sym, subst, arith}
-use Rattle.std.proofs.lemmas.List.Elements.{All-nil, All-cons, All-head, All-weaker}
+use Rattle.std.proofs.Common.{ℕ, ◌<◌, ◌≤◌, inl, inr, length, All, sym, subst, arith}
 use Rattle.ve_theory.specs.Combinations.{unit, difference, IsReduced}
 use Rattle.ve_theory.specs.Words.{Word}
 use Rattle.ve_theory.specs.Derivations.{DerivedWithin}
 use Rattle.ve_theory.specs.Answers.{Row, IsNotAfter}
-use Rattle.ve_theory.specs.Laws.{IsTotalOrder, WordsAreOrdered}
+use Rattle.ve_theory.specs.Laws.{IsTotalOrder}
 use Rattle.ve_theory.proofs.Sums.{differences-append}
-use Rattle.ve_theory.proofs.Reduced.{All_from_AllBefore}
 use Rattle.ve_theory.proofs.DerivedElements.{DerivedWithin-alike}
 use Rattle.ve_table.specs.Tables.{ActionTable, presented, word_at, element_of}
 use Rattle.ve_table.specs.Sound.{IsSound, IsVectorOf}
-use Rattle.ve_machine.specs.Forwards.{IsResolved}
-use Rattle.ve_machine.specs.Laws.{ForwardingsAreASpace, ResolutionsExist}
 use Rattle.ve_machine.proofs.ResolvedVectors.{derived_both}
 use Rattle.ve_machine.proofs.Forwardings.{positive_prime}
 use Rattle.ve_settle.proofs.Order.{lower_not_after}

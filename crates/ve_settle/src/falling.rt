@@ -1,4 +1,4 @@
-ghost use Rattle.std.specs.Prelude.{◌≡◌, ℕ, ◌<◌, ◌≤◌, ◌+◌, ◌^◌, ◌∷◌, ◌++◌, [], All, Bool, IfNone, IfSome, IsTrue, OnOk, drop, length, nat_eq};
+ghost use Rattle.std.specs.Prelude.{◌≡◌, ℕ, ◌<◌, ◌≤◌, ◌+◌, ◌^◌, ◌∷◌, ◌++◌, [], All, Bool, IfNone, IfOk, IfSome, IsTrue, OnOk, drop, length, nat_eq};
 ghost use Rattle.ve_theory.specs.Combinations.{scaled, Alike, IsReduced};
 ghost use Rattle.ve_vec.specs.Vectors.{AllIds};
 ghost use Rattle.ve_settle.specs.Reduced.{IsReduced-prop};
@@ -6,7 +6,7 @@ ghost use Rattle.ve_settle.specs.Reduced.{IsReduced-prop};
 use crate::heap::TermHeap;
 use std::alloc::Global;
 use ve_field::Field;
-use ve_vec::{Sparse, Term};
+use ve_vec::{DenseSum, Sparse, Term};
 use ve_word::Memory;
 
 // Vectors of up to this many terms are kept loose, since a merge goes over all sorted terms.
@@ -90,6 +90,32 @@ impl FallingSum {
             coef = self.field.add(coef, further);
         }
         Some(Term { id, coef })
+    }
+
+    /// What is left, as a sum over the ids up to `bound`, which is above them all.
+    pub(crate) fn into_dense(mut self, alloc: Global, bound: u32) -> Result<DenseSum, Memory>
+        requires { All (λ t. t.0 < bound) (left_of self) }
+        ensures low { IfOk result (λ s. s.low ≡ 0) }
+        ensures high { IfOk result (λ s. s.high ≡ bound) }
+        ensures sum { IfOk result (λ s. Alike nat_eq self.field s.total (left_of self)) }
+    {
+        let mut sum = DenseSum::new(alloc, 0, bound)?;
+        let sorted = self.take_sorted_rest()?;
+        sum.add_scaled(&self.field, 1, &sorted);
+        while let Some(term) = self.pop() {
+            sum.add_scaled(&self.field, term.coef, &Sparse::unit(alloc, term.id));
+        }
+        Ok(sum)
+    }
+
+    /// Takes all sorted terms that are left, so that loose ones alone remain.
+    fn take_sorted_rest(&mut self) -> Result<Sparse, Memory>
+        ensures field { self.new.field ≡ self.old.field }
+        ensures whole { IfOk result (λ v. left_of self.old ≡ v ++ left_of self.new) }
+    {
+        let rest = self.sorted.rest(self.taken)?;
+        self.taken = self.sorted.len();
+        Ok(rest)
     }
 
     /// The greatest id, or `None` where no term is left.

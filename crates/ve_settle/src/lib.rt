@@ -10,6 +10,7 @@ mod image;
 mod live;
 mod resolution;
 mod rows;
+mod span;
 mod substitution;
 mod terms;
 

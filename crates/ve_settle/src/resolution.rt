@@ -8,6 +8,7 @@ ghost use Rattle.ve_settle.specs.Settling.{ForwardingsResolveToZero, Resolutions
 
 use crate::falling::FallingSum;
 use crate::live::has_live_ids;
+use crate::span::resolve_over_span;
 use crate::terms::add_term;
 use std::alloc::Global;
 use ve_table::Table;
@@ -57,10 +58,19 @@ fn resolve_by_falling_ids(alloc: Global, table: &Table, vector: Sparse) -> Resul
     let field = *table.presentation().field();
     let mut left = FallingSum::new(alloc, field, vector);
     let mut resolved = Sparse::zero(alloc);
+    let mut pushed: usize = 0;
     while let Some(term) = left.pop() {
-        match table.forward(term.id) {
-            Some(forward) => left.push_scaled(term.coef, forward)?,
-            None => add_term(&mut resolved, &field, term)?,
+        let Some(forward) = table.forward(term.id) else {
+            add_term(&mut resolved, &field, term)?;
+            continue;
+        };
+        left.push_scaled(term.coef, forward)?;
+        pushed = pushed.saturating_add(forward.len());
+        // More terms came in than there are ids below, so from here on a number for each of these costs less.
+        if pushed > term.id as usize {
+            let rest = resolve_over_span(alloc, table, left, term.id)?;
+            resolved.add_scaled(&field, 1, &rest)?;
+            return Ok(resolved);
         }
     }
     Ok(resolved)

@@ -1,4 +1,3 @@
-use Rattle.std.proofs.Common.{subst}
 use Rattle.ve_settle.proofs.resolution.resolve.Goals as goal
 
 pub returns-clause-resolved : goal.returns-clause-resolved

@@ -5,9 +5,9 @@ use Rattle.ve_theory.proofs.Sums.{prime-large, SameWeights-refl}
 use Rattle.ve_table.specs.Tables.{presented}
 use Rattle.ve_machine.specs.Forwards.{stand_in}
 use Rattle.ve_settle.proofs.Vectors.{part_more, term_all, term_residue}
-use Rattle.ve_machine.proofs.ReducedSums.{reduced_same}
+use Rattle.ve_machine.proofs.ReducedSums.{joined, reduced_same}
 use Rattle.ve_machine.proofs.Forwardings.{dead_stands, live_stands}
-use Rattle.ve_settle.proofs.Substituting.{joined, left_more, right_more}
+use Rattle.ve_settle.proofs.Substituting.{left_more, right_more}
 use Rattle.ve_settle.proofs.substitution.rewritten.Goals as goal
 use Rattle.ve_settle.proofs.substitution.rewritten.Goals.{in-Some+in_ok-add_scaled-in-Some, in-None+in_ok-add_term-in-None}
 

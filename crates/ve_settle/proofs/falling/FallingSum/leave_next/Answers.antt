@@ -1,4 +1,4 @@
-use Rattle.std.proofs.Common.{◌≡◌, rules, arith, drop, ap}
+use Rattle.std.proofs.Common.{◌≡◌, rules, arith, drop}
 use Rattle.ve_vec.proofs.ReducedLists.{IsReduced-drop}
 use Rattle.ve_settle.proofs.SortedTerms.{first_gone}
 use Rattle.ve_settle.proofs.falling.FallingSum.leave_next.Goals as goal
