@@ -1,8 +1,8 @@
 -- Hands over a field stay so.
-use Rattle.std.proofs.Common.{◌≡◌, ℕ, zero, suc, ◌<◌, None, Some, List, [], ◌∷◌, All, map, refl, sym, ap, subst, ◌∙◌, arith}
+use Rattle.std.proofs.Common.{◌≡◌, ℕ, zero, suc, ◌<◌, None, Some, List, [], ◌∷◌, All, map, refl, sym, ap, subst, ◌∙◌}
 use Rattle.std.specs.Prelude.{Option, slice_get, slice_index_or, unwrap_or}
 use Rattle.std.proofs.lemmas.List.Elements.{All-cons, All-get_or, All-head, All-map, All-nil, All-tail, All-weaker}
-use Rattle.ve_theory.specs.Combinations.{Combination, unit, AllBefore, IsReduced}
+use Rattle.ve_theory.specs.Combinations.{Combination, unit, IsReduced}
 use Rattle.ve_theory.specs.Words.{letters, start, Shortlex, ShortlexLetters}
 use Rattle.ve_theory.specs.Elements.{AlgebraElement}
 use Rattle.ve_theory.specs.Presentations.{relator, relators, submodule_relation}
@@ -12,6 +12,7 @@ use Rattle.ve_theory.proofs.RelatorReaches.{relators_reduced}
 use Rattle.ve_vec.specs.Tracing.{row_or_zero}
 use Rattle.ve_table.specs.Tables.{ActionTable, presented, row_at}
 use Rattle.ve_table.specs.Sound.{IsSound}
+use Rattle.ve_table.proofs.Units.{unit_reduced}
 use Rattle.ve_machine.specs.Seats.{Job, image_job, relator_job, submodule_job}
 use Rattle.ve_machine.specs.Hands.{Beginning, Hand, Part, beginning_hand, begun_with, empty_hand, from_forward, from_id, from_image, next_hand, parts_of, summed_hand, tracing_hand}
 use Rattle.ve_machine.specs.HandSteps.{Applies, Repairs, begins_forward, begins_image, found_at, found_for, multiplies, read_for, read_hand, repairs_part, repairs_sum, sums}
@@ -19,10 +20,6 @@ use Rattle.ve_hand.specs.Fits.{FitsFound, FitsHand, FitsPart, FitsReading}
 use Rattle.ve_hand.specs.Jobs.{HasRelation}
 use Rattle.ve_hand.proofs.FromTables.{of_table}
 use Rattle.ve_hand.proofs.Residues.{residues_of}
-
-unit_fits : (p b : ℕ) → 1 < p → IsReduced ◌<◌ p (unit b)
-unfolding IsReduced AllBefore
-unit_fits p b large = (omega arith, large, tt, tt)
 
 none_fits : (p : ℕ) → IsReduced ◌<◌ p []
 unfolding IsReduced
@@ -39,7 +36,7 @@ at_or P (x ∷ xs) d missing each (suc i) = at_or P xs d missing (λ j y found. 
 begun_fits : (p : ℕ) (sum : Row) (part : Part) (parts : List Part) (beginning : Beginning) → 1 < p → IsReduced ◌<◌ p sum → FitsPart p part → All (FitsPart p) parts
     → FitsHand p (begun_with sum part parts beginning)
 begun_fits p sum part parts (from_id b) large sum_fits part_fits parts_fit =
-    record { sum_fits = sum_fits; residue = part_fits; parts_fit = parts_fit; vector_fits = unit_fits p b large; read_fits = tt }
+    record { sum_fits = sum_fits; residue = part_fits; parts_fit = parts_fit; vector_fits = unit_reduced p b large; read_fits = tt }
 begun_fits p sum part parts (from_image i) large sum_fits part_fits parts_fit = record { sum_fits = sum_fits; part_fits = part_fits; parts_fit = parts_fit; read_fits = tt }
 begun_fits p sum part parts (from_forward b x) large sum_fits part_fits parts_fit = record { sum_fits = sum_fits; part_fits = part_fits; parts_fit = parts_fit; read_fits = tt }
 
@@ -101,7 +98,7 @@ module _ (T : ActionTable) (sound : IsSound T) where
   image_fits i = at_or (IsReduced ◌<◌ p) T.images [] (none_fits p) (λ j v found. (sound.images j v found).stands.row.0) i
 
   stand_in_fits : (b : ℕ) (forward : Option Row) → slice_index_or T.forwards b None ≡ forward → IsReduced ◌<◌ p (unwrap_or forward (unit b))
-  stand_in_fits b None is = unit_fits p b prime_large
+  stand_in_fits b None is = unit_reduced p b prime_large
   stand_in_fits b (Some forward) is = forward_fits b forward is
 
   beginning_fits : (beginning : Beginning) → FitsReading p (read_for (of_table T) beginning)

@@ -5,8 +5,10 @@ use Rattle.ve_theory.specs.Combinations.{scaled, IsReducedOf}
 use Rattle.ve_theory.specs.Answers.{Row}
 use Rattle.ve_theory.proofs.Sums.{SameWeights-refl}
 use Rattle.ve_machine.specs.Hands.{Hand, Part, Reading, beginning_hand, next_hand, summed_hand, tracing_hand, unread}
-use Rattle.ve_machine.specs.HandSteps.{Applies, Repairs, begins_forward, begins_image, multiplies, repairs_part, repairs_sum, sums}
+use Rattle.ve_machine.specs.HandSteps.{Applies, begins_forward, begins_image, multiplies, repairs_part, repairs_sum, sums}
 use Rattle.ve_machine.specs.Allowed.{CanApply, CanRepair}
+use Rattle.ve_machine.proofs.EnabledEvents.{apply_allowed, repair_allowed}
+use Rattle.ve_machine.proofs.ReducedSums.{joined}
 use Rattle.ve_hand.specs.declared.read_vector.ReadVector.{ReadVector}
 use Rattle.ve_hand.specs.declared.starting.Starting.{Starting}
 use Rattle.ve_hand.specs.declared.tracing.Tracing.{Tracing}
@@ -16,18 +18,7 @@ use Rattle.ve_hand.specs.Parts.{part_of}
 use Rattle.ve_hand.specs.Fits.{FitsHand}
 use Rattle.ve_hand.specs.Views.{reading_of, start_of, starting_of, tracing_of}
 use Rattle.ve_hand.proofs.Fitting.{applied_fits}
-use Rattle.ve_hand.proofs.Summing.{joined}
 use Rattle.ve_hand.specs.Outcomes.{AppliesHand, BeginsVector, MultipliesVector, RepairsHand, RepairsVector, SumsRead}
-
-repair_allowed : (p : ℕ) (hand next : Hand) → Repairs p hand next → CanRepair hand
-repair_allowed p hand next (repairs_part sum coefficient parts vector after left founds some reduced) = some
-repair_allowed p hand next (repairs_sum vector after founds some reduced) = some
-
-apply_allowed : (p : ℕ) (hand next : Hand) → Applies p hand next → CanApply hand
-apply_allowed p hand next (begins_image sum part parts image) = tt
-apply_allowed p hand next (begins_forward sum after vector part parts row forward first second) = tt
-apply_allowed p hand next (multiplies sum coefficient parts vector after x left founds rows_found reduced) = rows_found
-apply_allowed p hand next (sums sum after coefficient parts vector reading reduced) = tt
 
 -- true exactly where the hand can be repaired, or can go on
 

@@ -6,7 +6,7 @@ use Rattle.std.proofs.lemmas.List.{length-take-le, take_more}
 use Rattle.std.proofs.lemmas.List.Elements.{All-contains}
 use Rattle.ve_theory.specs.Combinations.{scaled, IsReduced, IsReducedOf}
 use Rattle.ve_theory.specs.Answers.{Row}
-use Rattle.ve_theory.proofs.Sums.{weigh-append, weigh-scaled, SameWeights, SameWeights-refl, SameWeights-trans, SameWeights-append, SameWeights_of, Alike_from_weights, scaled-one}
+use Rattle.ve_theory.proofs.Sums.{weigh-append, weigh-scaled, SameWeights, SameWeights-refl, SameWeights-trans, SameWeights-append, SameWeights_of, Alike_from_weights}
 use Rattle.ve_theory.proofs.DerivedElements.{SameWeights-equal}
 use Rattle.ve_lemmas.proofs.Lists.{Contains-slice_get}
 use Rattle.ve_machine.specs.Hands.{Found, forward_found, none_found, row_found}
@@ -72,15 +72,6 @@ pub left_more : (p : ℕ) (left right new more sum : Row) → SameWeights p new 
 left_more p left right new more sum new_is same =
     SameWeights-trans (SameWeights-append new_is (SameWeights-refl p right))
     (SameWeights-trans (SameWeights-equal (λ h. simp (weigh-append, weigh-scaled) (omega arith))) (SameWeights-append same (SameWeights-refl p more)))
-
--- both parts make the sum
-pub joined : (p : ℕ) (left right new e : Row) → SameWeights p (left ++ right) e → IsReducedOf ◌<◌ nat_eq p new (left ++ scaled 1 right) → IsReducedOf ◌<◌ nat_eq p new e
-joined p left right new e same new_is = record {
-  reduced = new_is.reduced;
-  alike = Alike_from_weights nat_eq
-      (SameWeights-trans (reduced_same p new (left ++ scaled 1 right) new_is)
-      (SameWeights-trans (SameWeights-append (SameWeights-refl p left) (scaled-one p right)) same));
-}
 
 -- a sum to which something is added
 pub sum_more : (p : ℕ) (u v more e : Row) → IsReducedOf ◌<◌ nat_eq p u e → IsReducedOf ◌<◌ nat_eq p v (u ++ more) → IsReducedOf ◌<◌ nat_eq p v (e ++ more)

@@ -121,11 +121,11 @@ apply_exists p positive (tracing_hand sum coefficient parts vector (x ∷ left) 
     (tracing_hand sum coefficient parts found.0 left unread, multiplies sum coefficient parts vector found.0 x left founds can found.1)
 apply_exists p positive (summed_hand vector reading) can = absurd can
 
-repair_allowed : (p : ℕ) (hand next : Hand) → Repairs p hand next → CanRepair hand
+pub repair_allowed : (p : ℕ) (hand next : Hand) → Repairs p hand next → CanRepair hand
 repair_allowed p hand next (repairs_part sum coefficient parts vector after left founds some reduced) = some
 repair_allowed p hand next (repairs_sum vector after founds some reduced) = some
 
-apply_allowed : (p : ℕ) (hand next : Hand) → Applies p hand next → CanApply hand
+pub apply_allowed : (p : ℕ) (hand next : Hand) → Applies p hand next → CanApply hand
 apply_allowed p hand next (begins_image sum part parts image) = tt
 apply_allowed p hand next (begins_forward sum after vector part parts row forward first second) = tt
 apply_allowed p hand next (multiplies sum coefficient parts vector after x left founds rows_found reduced) = rows_found

@@ -1,12 +1,13 @@
 -- The reduced list of a sum: there is one, and it has keys of the sum alone.
-use Rattle.std.proofs.Common.{◌≡◌, ◌≢◌, ℕ, zero, suc, ◌+◌, ◌%◌, ◌<◌, ◌≤◌, ◌⊎◌, inl, inr, Bool, true, false, cond, nat_eq, [], ◌∷◌, All, refl, sym, ap, ap₂, subst, ◌∙◌, arith, eq-eqb, ne_eqb, mod-eq_of_lt}
+use Rattle.std.proofs.Common.{◌≡◌, ◌≢◌, ℕ, zero, suc, ◌+◌, ◌%◌, ◌<◌, ◌≤◌, ◌⊎◌, inl, inr, Bool, true, false, cond, nat_eq, [], ◌∷◌, ◌++◌, All, refl, sym, ap, ap₂, subst, ◌∙◌, arith, eq-eqb, ne_eqb, mod-eq_of_lt}
 use Rattle.std.proofs.Math.Nat.{zero-mod}
 use Rattle.std.proofs.lemmas.Nat.{mod_below}
 use Rattle.std.proofs.lemmas.Bool.{cases_eq, cases_lt, cond-true, cond-false}
 use Rattle.std.proofs.lemmas.List.Elements.{All-head, All-tail, All-weaker}
 use Rattle.ve_theory.specs.Residues.{Congruent}
-use Rattle.ve_theory.specs.Combinations.{Combination, coefficient, AllBefore, IsReduced, IsReducedOf}
-use Rattle.ve_theory.proofs.Sums.{SameWeights, coefficient-absent, weights_from_Alike, Decides-nat_eq}
+use Rattle.ve_theory.specs.Combinations.{Combination, coefficient, scaled, AllBefore, IsReduced, IsReducedOf}
+use Rattle.ve_theory.specs.Answers.{Row}
+use Rattle.ve_theory.proofs.Sums.{SameWeights, SameWeights-append, SameWeights-refl, SameWeights-trans, coefficient-absent, scaled-one, weights_from_Alike, Alike_from_weights, Decides-nat_eq}
 use Rattle.ve_theory.proofs.Reduced.{below_strict, coefficients-reduced}
 use Rattle.ve_vec.proofs.ReducedLists.{AllBefore-higher}
 
@@ -35,6 +36,15 @@ reduced_keys Q p w e reduced all =
 
 pub reduced_same : (p : ℕ) (w e : Combination ℕ) → IsReducedOf ◌<◌ nat_eq p w e → SameWeights p w e
 reduced_same p w e reduced = weights_from_Alike nat_eq Decides-nat_eq p w e reduced.alike
+
+-- both parts of a sum make it
+pub joined : (p : ℕ) (left right new e : Row) → SameWeights p (left ++ right) e → IsReducedOf ◌<◌ nat_eq p new (left ++ scaled 1 right) → IsReducedOf ◌<◌ nat_eq p new e
+joined p left right new e same new_is = record {
+  reduced = new_is.reduced;
+  alike = Alike_from_weights nat_eq
+      (SameWeights-trans (reduced_same p new (left ++ scaled 1 right) new_is)
+      (SameWeights-trans (SameWeights-append (SameWeights-refl p left) (scaled-one p right)) same));
+}
 
 -- a term is put first, unless its coefficient is 0
 with_term : ℕ → ℕ → Combination ℕ → Combination ℕ

@@ -1,7 +1,8 @@
 use Rattle.std.proofs.Common.{◌≡◌, map, take, arith}
 use Rattle.std.proofs.lemmas.List.{take_all}
 use Rattle.ve_hand.specs.Views.{found_of}
-use Rattle.ve_hand.proofs.Summing.{forward_brought, forward_read_fits, joined, term_kept, term_residue}
+use Rattle.ve_machine.proofs.ReducedSums.{joined}
+use Rattle.ve_hand.proofs.Summing.{forward_brought, forward_read_fits, term_kept, term_residue}
 use Rattle.ve_hand.proofs.sums.repaired_sum.Goals as goal
 use Rattle.ve_hand.proofs.sums.repaired_sum.Goals.{in-Some+in_ok-add_scaled-in-Some, in-None+in_ok-add_scaled_term-in-None}
 
