@@ -1,13 +1,11 @@
 -- Endings exclude each other, and levels are reached one after another.
-use Rattle.std.proofs.Common.{◌≡◌, ℕ, zero, suc, ◌+◌, ◌*◌, ◌-◌, ◌<◌, ◌≤◌, ◌⊎◌, inl, inr, List, ◌∷◌, [], length, get_or, Contains, sym, ap, ◌∙◌, subst, refl, arith, length-append, mul-le-mul_left, mul-suc}
-use Rattle.std.proofs.lemmas.Bool.{cases_lt, cases_order}
-use Rattle.std.proofs.lemmas.List.{get_or_default}
-use Rattle.ve_theory.specs.Words.{Word, generator, times, letters, word_length}
+use Rattle.std.proofs.Common.{◌≡◌, ℕ, zero, suc, ◌+◌, ◌*◌, ◌-◌, ◌<◌, ◌≤◌, ◌⊎◌, inl, inr, Contains, sym, ap, ◌∙◌, subst, refl, arith, mul-le-mul_left, mul-suc}
+use Rattle.std.proofs.lemmas.Bool.{cases_lt}
+use Rattle.ve_theory.specs.Words.{word_length}
 use Rattle.ve_theory.specs.Presentations.{Presentation, IsPresentation, reach, before, greatest_step, relator_bound, submodule_bound}
-use Rattle.ve_theory.specs.Levels.{IsNormal, Lists, HasSize, Closes, IsClosingLevel, FitsLimit, IsOutgrown, IsFinishedAt}
+use Rattle.ve_theory.specs.Levels.{HasSize, Closes, FitsLimit, IsOutgrown, IsFinishedAt}
 use Rattle.ve_theory.specs.Laws.{HasBounds, ListsAreUnique}
-use Rattle.ve_theory.proofs.Orders.{reach-times, step_positive, before_reach}
-use Rattle.ve_theory.proofs.LevelBounds.{IsNormal-prefix, reach_of_length}
+use Rattle.ve_theory.proofs.LevelBounds.{place_of_normal, reach_of_length}
 use Rattle.ve_pres.specs.Drafts.{Draft}
 use Rattle.ve_table.specs.Tables.{ActionTable, presented}
 use Rattle.ve_table.specs.Changes.{opened}
@@ -30,36 +28,6 @@ never_both law P limit k j n V done over = cases (cases_lt k j)
         omega arith
 
 -- ---- how far levels reach
-
--- a normal word stands in the list after all its prefixes
-place_of_normal : (P : Presentation) → IsPresentation P → (k : ℕ) (ws : List Word) → Lists P (IsNormal P k) ws → (w : Word) → IsNormal P k w → (h : Contains ws w) → word_length w ≤ h.0
-unfolding letters
-place_of_normal P V k ws L (generator i) N h = omega arith
-place_of_normal P V k ws L (times w x) N h =
-    let n : IsNormal P k w = IsNormal-prefix P k w x N in
-    let there : Contains ws w = L.every w n in
-    let earlier : length (letters w) ≤ there.0 = place_of_normal P V k ws L w n there in
-    let less : there.0 < h.0 = apart there (cases_lt there.0 h.0) in
-    omega (arith, length-append (letters w) (x ∷ []))
-  where
-    apart : (there : Contains ws w) → (there.0 < h.0) ⊎ (h.0 ≤ there.0) → there.0 < h.0
-    apart there (inl l) = l
-    apart there (inr l) = absurd (cases (cases_lt h.0 there.0))
-      where
-        a : get_or ws h.0 w ≡ times w x
-        a = get_or_default ws h.0 w (times w x) h.1 ∙ h.2
-
-        further : reach P w < reach P (times w x)
-        further = omega (arith, reach-times P w x, step_positive P V x)
-
-        cases : (h.0 < there.0) ⊎ (there.0 ≤ h.0) → ⊥
-        cases (inl m) =
-            let b : before P (get_or ws h.0 w) (get_or ws there.0 w) = L.rising h.0 there.0 w m there.1 in
-            let c : reach P (get_or ws h.0 w) ≤ reach P (get_or ws there.0 w) = before_reach P (get_or ws h.0 w) (get_or ws there.0 w) b in
-            omega (arith, ap (reach P) a, ap (reach P) there.2, further)
-        cases (inr m) =
-            let same : there.0 ≡ h.0 = omega arith in
-            omega (arith, ap (reach P) a, ap (reach P) there.2, ap (λ i. reach P (get_or ws i w)) same, further)
 
 -- a level that fits the limit, where none before it closes
 pub reached_level : (P : Presentation) → IsPresentation P → HasBounds P → (limit k : ℕ) → FitsLimit P limit k → ((j : ℕ) → j < k → Closes P j → ⊥)
