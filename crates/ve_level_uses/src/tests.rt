@@ -4,6 +4,9 @@ ghost use Rattle.std.specs.Prelude.{◌≤◌, IfOk, IfSome};
 ghost use Rattle.ve_levels.specs.Advancing.{most_limit};
 ghost use Rattle.ve_level_uses.specs.Working.{IsReady, StartsReady};
 
+mod answers;
+mod seats;
+
 use crate::work;
 use std::alloc::Global;
 use std::test::Fail;
