@@ -1,6 +1,6 @@
 //! Sums of many vectors over a span of ids.
 
-ghost use Rattle.std.specs.Prelude.{◌≡◌, ℕ, ◌+◌, ◌*◌, ◌%◌, ◌^◌, ◌<◌, ◌≤◌, ◌∷◌, ◌++◌, [], All, IfOk, IsTrue, length, nat_eq};
+ghost use Rattle.std.specs.Prelude.{◌≡◌, ℕ, ◌+◌, ◌*◌, ◌%◌, ◌^◌, ◌<◌, ◌≤◌, ◌↔◌, ◌∷◌, ◌++◌, [], All, IfOk, IsTrue, length, nat_eq};
 ghost use Rattle.ve_theory.specs.Residues.{Congruent};
 ghost use Rattle.ve_theory.specs.Combinations.{Alike, IsReducedOf, coefficient, scaled};
 ghost use Rattle.ve_vec.specs.Spans.{AllBetween, spanned};
@@ -62,7 +62,7 @@ impl DenseSum {
     pub fn is_empty_at(&self, id: u32) -> bool
         requires low { self.now.low ≤ id }
         requires high { id ≤ self.now.high }
-        ensures { IsTrue result → coefficient nat_eq self.now.total id ≡ 0 }
+        ensures { IsTrue result ↔ (coefficient nat_eq self.now.total id ≡ 0) }
     {
         self.numbers[(id - self.low) as usize] == 0
     }
