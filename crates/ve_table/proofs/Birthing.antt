@@ -9,14 +9,14 @@ use Rattle.std.proofs.lemmas.List.FromFn.{get_or-range_with_len, length-range_wi
 use Rattle.std.proofs.lemmas.List.Elements.{All-nil, All-append, All-map, All-filter, All-contains, filter_passes, Contains-append_left, Contains-append_right}
 use Rattle.std.proofs.lemmas.List.Kept.{AllPairs-cons, AllPairs-filter}
 use Rattle.ve_theory.specs.Words.{Word, generator, times, word_weight, letter_weight, IsSmaller, Weighted}
-use Rattle.ve_lemmas.proofs.Lists.{Contains-here}
+use Rattle.ve_lemmas.proofs.Lists.{Contains-here, Contains-later, Contains-cons}
 use Rattle.ve_lemmas.proofs.Weights.{weights_rise}
 use Rattle.ve_table.specs.declared.entry.Entry.{Entry}
 use Rattle.ve_table.specs.declared.birth.Birth.{Birth}
 use Rattle.ve_table.specs.Steps.{HasRisingReaches}
 use Rattle.ve_table.specs.Births.{word_in, product_of, IsWeightedBook, Begins, same, longer, CanCompare, SmallerBirth, Merges, letters_weighing, births_of, all_births, IsBirth, AreBirths}
 use Rattle.ve_table.proofs.Comparing.{smaller_longer, smaller_letter}
-use Rattle.ve_table.proofs.Merging.{contains_later, contains_cases, first_before, rest_rises, all_merged, merged_rises, merged_has}
+use Rattle.ve_table.proofs.Merging.{first_before, rest_rises, all_merged, merged_rises, merged_has}
 
 -- weights
 
@@ -100,13 +100,13 @@ letters_weigh weights weight k d lt =
 pub contains_filter : {X : Type 0} (p : X → Bool) (xs : List X) (x : X) → Contains xs x → p x ≡ true → Contains (filter p xs) x
 contains_filter p [] x found passes = absurd (omega (arith, found.1))
 contains_filter p (y ∷ ys) x found passes =
-    elim (contains_cases y ys x found) [
+    elim (Contains-cons y x ys found) [
       | inl here ↦ subst (λ l. Contains l x) (sym (cond-true (p y) (y ∷ filter p ys) (filter p ys) (ap p here ∙ passes))) (subst (Contains (y ∷ filter p ys)) here (Contains-here y (filter p ys)))
       | inr there ↦ kept (p y) (contains_filter p ys x there passes)
     ]
   where
     kept : (b : Bool) → Contains (filter p ys) x → Contains (cond b (y ∷ filter p ys) (filter p ys)) x
-    kept true found = contains_later y (filter p ys) x found
+    kept true found = Contains-later y x (filter p ys) found
     kept false found = found
 
 contains_letter : (weights : List ℕ) (weight x : ℕ) → x < length weights → letter_weight weights x ≡ weight → Contains (letters_weighing weights weight) x

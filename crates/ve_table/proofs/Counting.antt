@@ -9,10 +9,10 @@ use Rattle.std.proofs.lemmas.List.Elements.{All-head, All-tail, Contains-append_
 use Rattle.ve_theory.specs.Words.{Word}
 use Rattle.ve_theory.specs.Presentations.{Presentation, reach}
 use Rattle.ve_theory.specs.Levels.{steps_to}
-use Rattle.ve_lemmas.proofs.Lists.{Contains-here}
+use Rattle.ve_lemmas.proofs.Lists.{Contains-here, Contains-later, Contains-cons}
 use Rattle.ve_table.specs.declared.birth.Birth.{Birth}
 use Rattle.ve_table.specs.Births.{births_of}
-use Rattle.ve_table.proofs.Merging.{contains_later, contains_cases, first_before, rest_rises}
+use Rattle.ve_table.proofs.Merging.{first_before, rest_rises}
 use Rattle.ve_table.proofs.Birthing.{contains_filter, contains_births_of}
 
 -- different elements of a list are no more than the list has
@@ -31,11 +31,11 @@ length_cut (y ∷ ys) (suc k) lt = let rest = length_cut ys k (omega (arith, lt)
 contains_cut : {X : Type 0} (ys : List X) (k : ℕ) (x z : X) → get_or ys k x ≡ x → k < length ys → x ≢ z → Contains ys z → Contains (cut ys k) z
 unfolding cut
 contains_cut [] k x z is lt differ found = absurd (omega (arith, lt))
-contains_cut (y ∷ ys) zero x z is lt differ found = elim (contains_cases y ys z found) [ inl here ↦ absurd (differ (sym is ∙ here)) | inr there ↦ there ]
+contains_cut (y ∷ ys) zero x z is lt differ found = elim (Contains-cons y z ys found) [ inl here ↦ absurd (differ (sym is ∙ here)) | inr there ↦ there ]
 contains_cut (y ∷ ys) (suc k) x z is lt differ found =
-    elim (contains_cases y ys z found) [
+    elim (Contains-cons y z ys found) [
       | inl here ↦ subst (Contains (y ∷ cut ys k)) here (Contains-here y (cut ys k))
-      | inr there ↦ contains_later y (cut ys k) z (contains_cut ys k x z is (omega (arith, lt)) differ there)
+      | inr there ↦ Contains-later y z (cut ys k) (contains_cut ys k x z is (omega (arith, lt)) differ there)
     ]
 
 pub no_more : {X : Type 0} (xs ys : List X) → AllPairs ◌≢◌ xs → All (Contains ys) xs → length xs ≤ length ys

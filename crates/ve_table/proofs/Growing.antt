@@ -8,7 +8,7 @@ use Rattle.std.proofs.lemmas.List.Elements.{All-head, All-tail, All-set, All-pus
 use Rattle.ve_theory.specs.Combinations.{unit}
 use Rattle.ve_theory.specs.Words.{Word, generator, times}
 use Rattle.ve_theory.specs.Answers.{Row}
-use Rattle.ve_lemmas.proofs.Lists.{Contains-here}
+use Rattle.ve_lemmas.proofs.Lists.{Contains-here, Contains-later}
 use Rattle.ve_table.specs.declared.origin.Origin.{Origin}
 use Rattle.ve_table.specs.declared.origin.Origin.TheVariants.{Root, Child}
 use Rattle.ve_table.specs.declared.entry.Entry.{Entry}
@@ -19,7 +19,7 @@ use Rattle.ve_table.specs.Growth.{entry_of_birth}
 use Rattle.ve_table.specs.Deaths.{forward_of, forwards_of}
 use Rattle.ve_table.proofs.Listed.{row_in, Agree, set_agrees, push_agrees}
 use Rattle.ve_table.proofs.Opening.{no_row}
-use Rattle.ve_table.proofs.Merging.{contains_later, first_before, rest_rises}
+use Rattle.ve_table.proofs.Merging.{first_before, rest_rises}
 
 -- the rows of a table of n ids after further births
 abbrev pub rows_with : {X : Type 0} → List X → ℕ → List (List (Option Row)) → List Birth → List (List (Option Row))
@@ -91,7 +91,7 @@ module _ {X : Type 0} (names : List X) where
   pub row_stays : (n : ℕ) (rows : List (List (Option Row))) (bs : List Birth) (q y : ℕ) → (Contains bs (record { parent = q; letter = y }) → ⊥) → row_in (rows_with names n rows bs) q y ≡ row_in rows q y
   row_stays n rows [] q y not_born = refl
   row_stays n rows (b ∷ bs) q y not_born =
-      row_stays (n + 1) (after_birth n rows b) bs q y (λ found. not_born (contains_later b bs (record { parent = q; letter = y }) found))
+      row_stays (n + 1) (after_birth n rows b) bs q y (λ found. not_born (Contains-later b (record { parent = q; letter = y }) bs found))
       ∙ row_beside n rows b q y (λ parent letter. not_born (subst (Contains (b ∷ bs)) (ap₂ (λ p x. record { parent = p; letter = x }) (sym parent) (sym letter)) (Contains-here b bs)))
 
   pub row_is_born : (n : ℕ) (rows : List (List (Option Row))) (bs : List Birth) (k : ℕ) (d : Birth) → HasWideRows names n rows bs → AllPairs ◌≢◌ bs → k < length bs

@@ -1,27 +1,17 @@
 -- What a merge of two rising lists has.
-use Rattle.std.proofs.Common.{◌≡◌, ℕ, zero, suc, ◌<◌, ◌⊎◌, inl, inr, List, [], ◌∷◌, ◌++◌, length, get_or, sym, ap, subst, ◌∙◌, arith}
+use Rattle.std.proofs.Common.{◌≡◌, suc, ◌⊎◌, inl, inr, List, [], ◌∷◌, ◌++◌, get_or, sym, ap, subst, ◌∙◌, arith}
 use Rattle.std.specs.Prelude.{All, AllPairs, Contains}
 use Rattle.std.proofs.lemmas.List.{append_assoc}
 use Rattle.std.proofs.lemmas.List.Elements.{All-cons, All-head, All-tail}
 use Rattle.std.proofs.lemmas.List.Kept.{AllPairs-cons}
 use Rattle.ve_theory.specs.Words.{Word, letters, IsSmaller}
 use Rattle.ve_lemmas.proofs.Orders.{differs_transitive}
-use Rattle.ve_lemmas.proofs.Lists.{Contains-here}
+use Rattle.ve_lemmas.proofs.Lists.{Contains-here, Contains-later, Contains-cons}
 use Rattle.ve_table.specs.declared.entry.Entry.{Entry}
 use Rattle.ve_table.specs.declared.birth.Birth.{Birth}
 use Rattle.ve_table.specs.Births.{product_of, SmallerBirth, Merges, no_left, no_right, from_left, from_right}
 
--- members
-
-pub contains_later : {X : Type 0} (y : X) (xs : List X) (x : X) → Contains xs x → Contains (y ∷ xs) x
-contains_later y xs x found = (suc found.0, omega (arith, found.1), found.2)
-
-pub contains_cases : {X : Type 0} (y : X) (xs : List X) (x : X) → Contains (y ∷ xs) x → (y ≡ x) ⊎ Contains xs x
-contains_cases y xs x found = by found.0 found.1 found.2
-  where
-    by : (k : ℕ) → k < length (y ∷ xs) → get_or (y ∷ xs) k x ≡ x → (y ≡ x) ⊎ Contains xs x
-    by zero lt is = inl is
-    by (suc k) lt is = inr (k, omega (arith, lt), is)
+-- rising lists
 
 pub first_before : {X : Type 0} (R : X → X → Type 0) (x : X) (xs : List X) → AllPairs R (x ∷ xs) → All (R x) xs
 first_before R x xs pairs k d lt = pairs 0 (suc k) d (omega arith) (omega (arith, lt))
@@ -70,16 +60,16 @@ merged_has es _ _ _ x (no_left right) (inr found) = found
 merged_has es _ _ _ x (no_right left) (inl found) = found
 merged_has es _ _ _ x (no_right left) (inr found) = absurd (omega (arith, found.1))
 merged_has es _ _ _ x (from_left a b left right merged less rest) (inl found) =
-    elim (contains_cases a left x found) [
+    elim (Contains-cons a x left found) [
       | inl here ↦ subst (Contains (a ∷ merged)) here (Contains-here a merged)
-      | inr there ↦ contains_later a merged x (merged_has es left (b ∷ right) merged x rest (inl there))
+      | inr there ↦ Contains-later a x merged (merged_has es left (b ∷ right) merged x rest (inl there))
     ]
-merged_has es _ _ _ x (from_left a b left right merged less rest) (inr found) = contains_later a merged x (merged_has es left (b ∷ right) merged x rest (inr found))
-merged_has es _ _ _ x (from_right a b left right merged less rest) (inl found) = contains_later b merged x (merged_has es (a ∷ left) right merged x rest (inl found))
+merged_has es _ _ _ x (from_left a b left right merged less rest) (inr found) = Contains-later a x merged (merged_has es left (b ∷ right) merged x rest (inr found))
+merged_has es _ _ _ x (from_right a b left right merged less rest) (inl found) = Contains-later b x merged (merged_has es (a ∷ left) right merged x rest (inl found))
 merged_has es _ _ _ x (from_right a b left right merged less rest) (inr found) =
-    elim (contains_cases b right x found) [
+    elim (Contains-cons b x right found) [
       | inl here ↦ subst (Contains (b ∷ merged)) here (Contains-here b merged)
-      | inr there ↦ contains_later b merged x (merged_has es (a ∷ left) right merged x rest (inr there))
+      | inr there ↦ Contains-later b x merged (merged_has es (a ∷ left) right merged x rest (inr there))
     ]
 
 -- a step of a merge
@@ -100,7 +90,7 @@ pub one_more : (es : List Entry) (left right done new rest : List Birth) (a : Bi
 one_more es left right done new rest a new_is merges = subst (Merges es left right) (sym (append_assoc done (a ∷ []) rest) ∙ ap (λ l. l ++ rest) (sym new_is)) merges
 
 pub contains_rest : (a x : Birth) (left after : List Birth) → left ≡ a ∷ after → Contains after x → Contains left x
-contains_rest a x left after left_is found = subst (λ l. Contains l x) (sym left_is) (contains_later a after x found)
+contains_rest a x left after left_is found = subst (λ l. Contains l x) (sym left_is) (Contains-later a x after found)
 
 pub contains_head : (a : Birth) (left after : List Birth) → left ≡ a ∷ after → Contains left a
 contains_head a left after left_is = subst (λ l. Contains l a) (sym left_is) (Contains-here a after)

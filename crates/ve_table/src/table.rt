@@ -1,22 +1,22 @@
 //! The table and its readers.
 
-ghost use Rattle.std.specs.Prelude.{◌≡◌, ℕ, ◌+◌, ◌*◌, ◌<◌, ◌≤◌, ◌^◌, ◌↔◌, IsTrue, IfNone, IfSome, IsSome, Some, length, slice_get, count_by, nat_eq, position, sum_by, All, None};
-ghost use Rattle.std.specs.Option.{option_copied};
+ghost use Rattle.std.specs.Prelude.{◌≡◌, ℕ, ◌+◌, ◌*◌, ◌<◌, ◌≤◌, ◌^◌, ◌↔◌, IsTrue, IsSome, Some, length, slice_get, count_by, nat_eq, sum_by, All};
 ghost use Rattle.ve_theory.specs.Words.{word_length};
 ghost use Rattle.ve_theory.specs.Presentations.{due, element_reach, reach, relator, relators, submodule_relation};
+ghost use Rattle.ve_theory.specs.Answers.{Row};
 ghost use Rattle.ve_theory.specs.Validity.{most_letters};
-ghost use Rattle.ve_table.specs.Tables.{IsDead, IsDue, IsId, IsLive, live_words, presented, reach_at, row_at, word_at};
+ghost use Rattle.ve_table.specs.Tables.{IsDue, IsId, presented, reach_at, row_at, word_at};
 ghost use Rattle.ve_table.specs.Books.{IsOriginOf};
 ghost use Rattle.ve_table.specs.Sound.{IsSound};
 ghost use Rattle.ve_table.specs.Changes.{next_count};
 ghost use Rattle.ve_table.specs.Steps.{live_steps};
-ghost use Rattle.ve_table.specs.Deaths.{is_dead_entry};
 
 mod changes;
 mod copy;
 mod drop_dead;
 mod grow;
 mod into_parts;
+mod live;
 mod open;
 
 use crate::Origin;
@@ -139,22 +139,6 @@ impl Table {
         u64::from(self.reaches.submodule[number as usize])
     }
 
-    /// Whether an id is live.
-    pub fn is_live(&self, id: u32) -> bool
-        requires { IsId self.now id }
-        ensures { IsTrue result ↔ IsLive self.now id }
-    {
-        self.entries[id as usize].is_live()
-    }
-
-    /// The vector that stands for a dead id, and `None` where the id is live.
-    pub fn forward(&self, id: u32) -> Option<&Sparse>
-        requires { IsId self.now id }
-        ensures { slice_get self.now.forwards id ≡ Some (option_copied result) }
-    {
-        self.entries[id as usize].forward(&self.forwards)
-    }
-
     /// Whether an id has a row at a letter: whether there are such an id and letter, and their product is within the level.
     pub fn has_row(&self, id: u32, letter: u8) -> bool
         ensures row { IsTrue result ↔ IsSome (row_at self.now id letter) }
@@ -179,27 +163,6 @@ impl Table {
         &self.images
     }
 
-    /// How many ids are live.
-    pub fn live_count(&self) -> u32
-        ensures count { result ≡ length (live_words self.now) }
-        ensures all { result ≡ length self.now.words ↔ All (λ forward. forward ≡ None) self.now.forwards }
-    {
-        self.live
-    }
-
-    /// The least dead id, and `None` where all are live.
-    pub fn least_dead(&self) -> Option<u32>
-        ensures none { IfNone result (All (λ forward. forward ≡ None) self.now.forwards) }
-        ensures dead { IfSome result (IsDead self.now) }
-        ensures least { IfSome result (λ id. (b : ℕ) → b < id → IsLive self.now b) }
-    {
-        if self.live == self.id_count() {
-            return None;
-        }
-        let least = first_dead(&self.entries)?;
-        Some(least as u32)
-    }
-
     /// The first id of the reach or above. Ids are in the order of their words, so all from it on are.
     pub fn first_of_reach(&self, reach: u64) -> u32
         ensures bound { result ≤ length self.now.words }
@@ -207,6 +170,19 @@ impl Table {
         ensures rest { (b : ℕ) → result ≤ b → IsId self.now b → reach ≤ reach_at self.now b }
     {
         first_of_reach(&self.entries, reach) as u32
+    }
+
+    /// An id below which no row names the given id or a later one, since no word of a row reaches further than its product.
+    pub fn first_naming(&self, id: u32) -> u32
+        requires { IsId self.now id }
+        ensures bound { result ≤ id }
+        ensures below { (b x : ℕ) (v : Row) → b < result → row_at self.now b x ≡ Some v → All (λ t. t.0 < id) v }
+    {
+        ve_theory::order::reaches_are_bounded();
+        self.is_sound();
+        let greatest = u32::from(self.presentation.greatest_weight());
+        let reach = self.reach(id).saturating_sub(greatest);
+        self.first_of_reach(u64::from(reach))
     }
 
     /// How many ids the next level has, where the dead ones are left out.
@@ -221,12 +197,6 @@ impl Table {
         let first = first_of_reach(&self.entries, least);
         u64::from(self.live) + steps_to(&self.entries[first..], weights, next)
     }
-}
-
-fn first_dead(entries: &[Entry]) -> Option<usize>
-    ensures { result ≡ position is_dead_entry entries.now }
-{
-    entries.iter().position(|entry| !entry.is_live())
 }
 
 /// How many pairs there are of a live id and a letter whose product has the reach.

@@ -1,8 +1,6 @@
-ghost use Rattle.std.specs.Prelude.{◌≡◌, ℕ, ◌<◌, ◌≤◌, ◌^◌, ◌↔◌, [], All, IfOk, IfSome, IsTrue, OnErr, OnOk, Some, filter, length, map, slice_index, slice_index_or};
+ghost use Rattle.std.specs.Prelude.{◌≡◌, ℕ, ◌<◌, ◌≤◌, ◌^◌, ◌↔◌, [], All, IfOk, IsTrue, OnErr, OnOk, filter, length, map, slice_index, slice_index_or};
 ghost use Rattle.std.specs.List.{AllWithin};
-ghost use Rattle.ve_theory.specs.Answers.{Row};
 ghost use Rattle.ve_vec.specs.Vectors.{numbered};
-ghost use Rattle.ve_table.specs.Tables.{IsId, row_at};
 ghost use Rattle.ve_table.specs.Sound.{IsSound, NamesLiveIds};
 ghost use Rattle.ve_table.specs.Changes.{without_dead};
 ghost use Rattle.ve_table.specs.Numbers.{AreNumbered, CanNumber, CanNumberEntry, IsNumbered, new_numbers};
@@ -44,19 +42,6 @@ impl Table {
             self.level,
         );
         Ok(())
-    }
-
-    /// An id below which no row names the given one or a later one, since the row's words are of smaller reach.
-    fn first_naming(&self, id: u32) -> u32
-        requires { IsId self.now id }
-        ensures bound { result ≤ id }
-        ensures below { (b x : ℕ) (v : Row) → b < result → row_at self.now b x ≡ Some v → All (λ t. t.0 < id) v }
-    {
-        ve_theory::order::reaches_are_bounded();
-        self.is_sound();
-        let greatest = u32::from(self.presentation.greatest_weight());
-        let reach = self.reach(id).saturating_sub(greatest);
-        self.first_of_reach(u64::from(reach))
     }
 }
 
