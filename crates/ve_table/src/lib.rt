@@ -14,6 +14,3 @@ mod table;
 pub use origin::Origin;
 pub use parts::Parts;
 pub use table::{Short, Table};
-
-#[cfg(test)]
-mod tests;

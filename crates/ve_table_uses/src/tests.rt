@@ -1,6 +1,7 @@
 //! Examples, from their text to what is left of their tables.
 
 mod algebra;
+mod tables;
 mod texts;
 
 use crate::imposing::{traced_relator, traced_submodule_relation};
