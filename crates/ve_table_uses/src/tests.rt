@@ -3,6 +3,7 @@
 mod algebra;
 mod tables;
 mod texts;
+mod vectors;
 
 use crate::imposing::{traced_relator, traced_submodule_relation};
 use crate::{impose_relator, impose_submodule_relation};
@@ -206,6 +207,6 @@ fn is_vector(vector: &Sparse, terms: &[(u32, u8)]) -> bool {
     vector.len() == terms.len()
         && (0..vector.len()).all(|at| {
             let (id, coef) = terms[at];
-            vector.term(at) == (Term { id, coef })
+            vector.term(at) == (Term { id, coef }) && vector.coef_of(id) == coef
         })
 }

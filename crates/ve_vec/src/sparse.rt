@@ -241,6 +241,3 @@ fn all_residues(terms: &[Term], field: &Field) -> bool
 {
     terms.iter().all(|term| field.is_residue(term.coef))
 }
-
-#[cfg(test)]
-mod tests;

@@ -1,24 +1,27 @@
-ghost use Rattle.std.specs.Prelude.{◌<◌, IfOk, length};
+//! Vectors, call by call.
+
+ghost use Rattle.std.specs.Prelude.{◌≡◌, ◌<◌, All, IfOk, IsTrue, length};
 ghost use Rattle.ve_theory.specs.Combinations.{IsReduced};
+ghost use Rattle.ve_vec.specs.Vectors.{numbered};
 
-use super::*;
-use crate::{DenseSum, Rows};
+use super::{Terms, is_vector};
+use std::alloc::Global;
 use std::test::Fail;
-
-/// Terms, each an id and a coefficient, by falling id.
-type Listed = &'static [(u32, u8)];
+use ve_field::Field;
+use ve_vec::{DenseSum, Rows, Sparse, Term};
+use ve_word::Memory;
 
 /// A call on a vector, and the terms that it has to leave.
 enum Step {
     /// `add_scaled` of a number and a vector.
-    Add(u8, Listed, Listed),
+    Add(u8, Terms, Terms),
     /// `add_scaled_term` of a number and a term.
-    AddTerm(u8, (u32, u8), Listed),
-    Substitute(u32, Listed, Listed),
-    Scale(u8, Listed),
-    Copy(Listed),
-    Rest(usize, Listed),
-    TakeLeading(Listed),
+    AddTerm(u8, (u32, u8), Terms),
+    Substitute(u32, Terms, Terms),
+    Scale(u8, Terms),
+    Copy(Terms),
+    Rest(usize, Terms),
+    TakeLeading(Terms),
 }
 
 // One step after another on the zero vector, modulo 5.
@@ -155,7 +158,7 @@ fn keeps_rest(v: &mut Sparse, from: usize, wanted: &[(u32, u8)]) -> Result<bool,
 }
 
 /// The sum of the terms.
-fn vector_of(alloc: Global, field: &Field, terms: &[(u32, u8)]) -> Result<Sparse, Memory>
+pub(super) fn vector_of(alloc: Global, field: &Field, terms: &[(u32, u8)]) -> Result<Sparse, Memory>
     ensures { IfOk result (λ v. IsReduced ◌<◌ field.now v) }
 {
     field.has_prime();
@@ -175,19 +178,6 @@ fn term_of(field: &Field, term: (u32, u8)) -> Term
         id,
         coef: field.reduce(u128::from(coef)),
     }
-}
-
-fn is_vector(v: &Sparse, terms: &[(u32, u8)]) -> bool {
-    if v.len() != terms.len() {
-        return false;
-    }
-    for at in 0..v.len() {
-        let (id, coef) = terms[at];
-        if v.term(at) != (Term { id, coef }) || v.coef_of(id) != coef {
-            return false;
-        }
-    }
-    true
 }
 
 #[test]
@@ -213,20 +203,61 @@ fn sum_of_units(alloc: Global, field: &Field, by: [u8; 3]) -> Result<Sparse, Mem
     sum.into_sparse(field)
 }
 
-/// A unit whose id gets its number.
-fn numbered_unit(alloc: Global, id: u32, numbers: &[u32]) -> Sparse
-    requires { id < length numbers.now }
-{
-    let mut v = Sparse::unit(alloc, id);
-    v.renumber(numbers);
-    v
-}
+/// A vector, a number for each id, and the vector of the numbers.
+const NUMBERINGS: [(Terms, &[u32], Terms); 3] = [
+    (&[(2, 1)], &[4, 0, 1], &[(1, 1)]),
+    (
+        &[(5, 2), (3, 4), (1, 1)],
+        &[9, 0, 9, 1, 9, 2],
+        &[(2, 2), (1, 4), (0, 1)],
+    ),
+    (
+        &[(4, 1), (3, 2), (2, 3), (0, 4)],
+        &[0, 9, 2, 6, 7],
+        &[(7, 1), (6, 2), (2, 3), (0, 4)],
+    ),
+];
 
 #[test]
 fn renumbers(rt: HostRuntime) -> Result<(), Fail> {
-    let unit = numbered_unit(rt.alloc(), 2, &[4, 0, 1]);
-    assert!(rt; is_vector(&unit, &[(1, 1)]));
+    let alloc = rt.alloc();
+    let field = five()?;
+    for (terms, numbers, wanted) in NUMBERINGS {
+        let mut v = vector_of(alloc, &field, terms)?;
+        let other = vector_of(alloc, &field, wanted)?;
+        assert!(rt; renumbers_to(&field, &mut v, numbers, &other));
+        assert!(rt; is_vector(&v, wanted));
+    }
     Ok(())
+}
+
+/// Renumbers, where the other vector has the numbers of the ids.
+fn renumbers_to(field: &Field, v: &mut Sparse, numbers: &[u32], other: &Sparse) -> bool {
+    if !other.fits(field) || !has_numbers(other, v, numbers) {
+        return false;
+    }
+    v.renumber(numbers);
+    true
+}
+
+/// Whether the vector is the other one with the number of each id in its place.
+fn has_numbers(v: &Sparse, other: &Sparse, numbers: &[u32]) -> bool
+    ensures numbers { IsTrue result → v.now ≡ numbered numbers.now other.now }
+    ensures ids { IsTrue result → All (λ t. t.0 < length numbers.now) other.now }
+{
+    if v.len() != other.len() {
+        return false;
+    }
+    for at in 0..v.len() {
+        let Term { id, coef } = other.term(at);
+        let Some(number) = numbers.get(id as usize) else {
+            return false;
+        };
+        if v.term(at) != (Term { id: *number, coef }) {
+            return false;
+        }
+    }
+    true
 }
 
 /// A table with one row.
