@@ -3,6 +3,7 @@
 mod algebra;
 mod tables;
 mod texts;
+mod tracing;
 mod vectors;
 
 use crate::imposing::{traced_relator, traced_submodule_relation};

@@ -14,5 +14,4 @@ pub mod DerivedProducts
 pub mod TracedProducts
 pub mod FoundProducts
 pub mod OwnRelations
-pub mod TotalTables
 pub mod OverTables

@@ -12,6 +12,3 @@ mod walk;
 
 pub use times::times_letter;
 pub use trace::{trace_relator, trace_sub, trace_word};
-
-#[cfg(test)]
-mod tests;

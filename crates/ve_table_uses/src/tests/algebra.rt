@@ -11,7 +11,7 @@ use ve_field::Field;
 use ve_pres::{FreeAlg, FreeMod, PresFault};
 
 // Coefficients, each with its letters.
-type Terms = &'static [(u8, &'static [u8])];
+pub(super) type Terms = &'static [(u8, &'static [u8])];
 
 const ZERO: Terms = &[];
 
@@ -22,7 +22,12 @@ const X: Terms = &[(1, &[0])];
 const X_AND_Y: Terms = &[(1, &[1]), (1, &[0])];
 
 // The sum of terms. Letters from `count` on are left out.
-fn element_of(alloc: Global, field: &Field, count: u8, terms: Terms) -> Result<FreeAlg, PresFault>
+pub(super) fn element_of(
+    alloc: Global,
+    field: &Field,
+    count: u8,
+    terms: Terms,
+) -> Result<FreeAlg, PresFault>
     ensures reduced { IfOk result (λ r. IsReduced ShortlexLetters field.now r) }
     ensures letters { IfOk result (λ r. HasLettersBelow count r) }
 {

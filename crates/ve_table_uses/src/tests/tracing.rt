@@ -1,15 +1,18 @@
+//! Vectors times words and relations, along the rows of tables that are written down.
+
 ghost use Rattle.std.specs.Prelude.{◌<◌, All, IfOk};
 ghost use Rattle.ve_theory.specs.Combinations.{IsReduced};
 ghost use Rattle.ve_theory.specs.Words.{Shortlex, ShortlexLetters};
 
-mod over_table;
-
-use super::*;
+use super::algebra::{Terms as Element, element_of};
+use super::vectors::vector_of;
+use super::{Terms, is_vector};
 use std::alloc::Global;
 use std::test::Fail;
 use ve_field::Field;
 use ve_pres::{FreeAlg, FreeMod, PresFault};
-use ve_vec::{Rows, Sparse, Term};
+use ve_trace::{trace_relator, trace_sub, trace_word};
+use ve_vec::{Rows, Sparse};
 use ve_word::Memory;
 
 /// How many letters there are.
@@ -24,7 +27,7 @@ struct Grid {
 
 impl Rows for Grid {
     ghost use Rattle.std.specs.Prelude.{Some, slice_index_or, ◌+◌, ◌*◌};
-    ghost use Rattle.ve_trace.specs.declared.tests.TheConstants.{LETTERS};
+    ghost use Rattle.ve_table_uses.specs.declared.tests.tracing.TheConstants.{LETTERS};
 
     ghost rows = { λ grid id letter. Some (slice_index_or grid.rows.items (id * LETTERS + letter) grid.zero) };
 
@@ -37,37 +40,14 @@ impl Rows for Grid {
     }
 }
 
-/// The vector of these terms.
-fn vector(alloc: Global, field: &Field, terms: &[(u32, u8)]) -> Result<Sparse, Memory>
-    ensures { IfOk result (λ v. IsReduced ◌<◌ field.now v) }
-{
-    field.has_prime();
-    let mut v = Sparse::zero(alloc);
-    for (id, coef) in terms {
-        let unit = Sparse::unit(alloc, *id);
-        if field.is_residue(*coef) {
-            v.add_scaled(field, *coef, &unit)?;
-        }
-    }
-    Ok(v)
-}
-
 fn vectors(alloc: Global, field: &Field, all: &[&[(u32, u8)]]) -> Result<Vec<Sparse>, Memory>
     ensures { IfOk result (λ vs. All (IsReduced ◌<◌ field.now) vs.items) }
 {
     let mut vs = Vec::new(alloc);
     for terms in all {
-        vs.push(vector(alloc, field, terms)?)?;
+        vs.push(vector_of(alloc, field, terms)?)?;
     }
     Ok(vs)
-}
-
-fn has_terms(v: &Sparse, terms: &[(u32, u8)]) -> bool {
-    v.len() == terms.len()
-        && (0..v.len()).all(|at| {
-            let (id, coef) = terms[at];
-            v.term(at) == (Term { id, coef })
-        })
 }
 
 /// The table of these rows.
@@ -81,34 +61,19 @@ fn table_of(alloc: Global, field: &Field, rows: &[&[(u32, u8)]]) -> Result<Grid,
     })
 }
 
-/// The sum of terms, each a coefficient and letters.
-fn element(alloc: Global, field: &Field, terms: &[(u8, &[u8])]) -> Result<FreeAlg, PresFault>
-    ensures { IfOk result (λ r. IsReduced ShortlexLetters field.now r) }
-{
-    field.has_prime();
-    let mut sum = FreeAlg::zero(alloc);
-    for (coef, letters) in terms {
-        let mut product = FreeAlg::constant(alloc, field, field.reduce(u128::from(*coef)))?;
-        for letter in *letters {
-            let factor = FreeAlg::letter(alloc, *letter)?;
-            product = product.mul(field, &factor)?;
-        }
-        sum = sum.add(field, &product)?;
-    }
-    Ok(sum)
-}
-
-/// An element of the algebra, as coefficients and letters.
-type Terms = &'static [(u8, &'static [u8])];
-
 /// The sum of generators, each times an element of the algebra.
-fn module_element(alloc: Global, field: &Field, parts: &[(u8, Terms)]) -> Result<FreeMod, PresFault>
+fn module_element(
+    alloc: Global,
+    field: &Field,
+    parts: &[(u8, Element)],
+) -> Result<FreeMod, PresFault>
     ensures { IfOk result (λ q. IsReduced Shortlex field.now q) }
 {
     field.has_prime();
     let mut sum = FreeMod::zero(alloc);
     for (root, terms) in parts {
-        let part = FreeMod::root(alloc, *root)?.times(field, &element(alloc, field, terms)?)?;
+        let element = element_of(alloc, field, LETTERS as u8, terms)?;
+        let part = FreeMod::root(alloc, *root)?.times(field, &element)?;
         sum = sum.add(field, &part)?;
     }
     Ok(sum)
@@ -168,14 +133,14 @@ fn two_cycle_table(rt: HostRuntime) -> Result<(), Fail> {
         panic!(rt; "2 is a prime");
     };
     let grid = table_of(alloc, &field, &[&[(1, 1)], &[], &[(2, 1)]])?;
-    let start = vector(alloc, &field, &[(0, 1)])?;
+    let start = vector_of(alloc, &field, &[(0, 1)])?;
     for (letters, id) in WORDS {
         let traced = traced_word(alloc, &field, &grid, &start, letters)?;
-        assert!(rt; has_terms(&traced, &[(*id, 1)]), "at {id}");
+        assert!(rt; is_vector(&traced, &[(*id, 1)]), "at {id}");
     }
-    let relator = element(alloc, &field, &[(1, &[0, 0]), (1, &[])])?;
+    let relator = element_of(alloc, &field, 2, &[(1, &[0, 0]), (1, &[])])?;
     let traced = traced_relator(alloc, &field, &grid, 0, &relator)?;
-    assert!(rt; has_terms(&traced, &[(2, 1), (0, 1)]));
+    assert!(rt; is_vector(&traced, &[(2, 1), (0, 1)]));
     Ok(())
 }
 
@@ -190,7 +155,7 @@ fn tied_generators_traced(rt: HostRuntime) -> Result<(), Fail> {
     let images = vectors(alloc, &field, &[&[(0, 1)], &[(1, 1)]])?;
     let relation = module_element(alloc, &field, &[(0, &[(2, &[0])]), (1, &[(1, &[])])])?;
     let traced = traced_relation(alloc, &field, &grid, &images, &relation)?;
-    assert!(rt; has_terms(&traced, &[(2, 2), (1, 1)]));
+    assert!(rt; is_vector(&traced, &[(2, 2), (1, 1)]));
     Ok(())
 }
 
@@ -214,7 +179,7 @@ fn stairs(alloc: Global, field: &Field, count: u32) -> Result<Grid, Memory>
 {
     let mut rows = Vec::new(alloc);
     for id in 0..count {
-        rows.push(vector(alloc, field, &[(id + 2, 1), (id + 1, 1)])?)?;
+        rows.push(vector_of(alloc, field, &[(id + 2, 1), (id + 1, 1)])?)?;
         rows.push(Sparse::zero(alloc))?;
     }
     let zero = Sparse::zero(alloc);
@@ -229,14 +194,14 @@ fn long_relator_traced(rt: HostRuntime) -> Result<(), Fail> {
         panic!(rt; "3 is a prime");
     };
     let grid = stairs(alloc, &field, 10)?;
-    let terms: Terms = &[
+    let terms: Element = &[
         (1, &[0, 0, 0, 0]),
         (1, &[0, 0, 0]),
         (1, &[0, 0]),
         (1, &[0]),
         (1, &[]),
     ];
-    let relator = element(alloc, &field, terms)?;
+    let relator = element_of(alloc, &field, 2, terms)?;
     let traced = traced_relator(alloc, &field, &grid, 0, &relator)?;
     let sum = [
         (8, 1),
@@ -248,7 +213,7 @@ fn long_relator_traced(rt: HostRuntime) -> Result<(), Fail> {
         (1, 1),
         (0, 1),
     ];
-    assert!(rt; has_terms(&traced, &sum));
+    assert!(rt; is_vector(&traced, &sum));
     Ok(())
 }
 
