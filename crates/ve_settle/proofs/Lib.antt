@@ -12,5 +12,4 @@ pub mod Images
 pub mod Resolving
 pub mod Clearing
 pub mod UniqueResolutions
-pub mod Vanishing
 pub mod LiveWords

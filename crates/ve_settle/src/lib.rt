@@ -23,6 +23,3 @@ pub use resolution::{
     resolve,
 };
 pub use substitution::rewrite;
-
-#[cfg(test)]
-mod tests;

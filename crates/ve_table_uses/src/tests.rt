@@ -1,6 +1,7 @@
 //! Examples, from their text to what is left of their tables.
 
 mod algebra;
+mod settling;
 mod tables;
 mod texts;
 mod tracing;

@@ -1,22 +1,19 @@
-ghost use Rattle.std.specs.Prelude.{◌≡◌, ◌<◌, IfOk, IsTrue, Some, [], length, slice_get};
+//! Vectors that are deleted, resolved and put in each other's place, on tables where every vector vanishes.
+
+ghost use Rattle.std.specs.Prelude.{◌≡◌, IsTrue, Some, [], length, slice_get};
 ghost use Rattle.ve_theory.specs.Combinations.{unit};
 ghost use Rattle.ve_theory.specs.Presentations.{relators};
 ghost use Rattle.ve_theory.specs.Answers.{IsRow};
 ghost use Rattle.ve_table.specs.Tables.{presented};
 
-use super::*;
-use crate::live::has_live_ids;
-use crate::terms::add_term;
+use super::vectors::vector_of;
+use super::{Terms, grow, is_vector, is_vector_at, opened};
 use std::alloc::Global;
 use std::test::Fail;
-use ve_field::Field;
-use ve_pres::{FreeAlg, Presentation};
+use ve_settle::{delete, image_of, resolve, rewrite};
 use ve_table::Table;
-use ve_vec::{Rows, Sparse, Term};
+use ve_vec::{Rows, Sparse};
 use ve_word::Memory;
-
-/// Terms, each an id and a coefficient, by falling id.
-type Terms = &'static [(u32, u8)];
 
 /// A call, and what it has to answer.
 enum Step {
@@ -30,31 +27,38 @@ enum Step {
     Rewrite(u32, bool, Terms),
 }
 
-/// Steps on the table of one generator and one letter at a level, modulo a prime.
+/// Steps on the table of a text at a level.
 struct Case {
-    prime: u64,
+    text: &'static str,
     level: u32,
     steps: &'static [Step],
 }
 
+// One generator and one letter under the relation 1 = 0.
+const MODULO_2: &str = "venum 1\nprime 2\nletter x\nmodule 1\nrelation 1 = 0\nend\n";
+
+const MODULO_3: &str = "venum 1\nprime 3\nletter x\nmodule 1\nrelation 1 = 0\nend\n";
+
+const MODULO_5: &str = "venum 1\nprime 5\nletter x\nmodule 1\nrelation 1 = 0\nend\n";
+
 const CASES: [Case; 4] = [
     Case {
-        prime: 2,
+        text: MODULO_2,
         level: 2,
         steps: &TWO_CYCLE,
     },
     Case {
-        prime: 5,
+        text: MODULO_5,
         level: 4,
         steps: &FIVE,
     },
     Case {
-        prime: 5,
+        text: MODULO_5,
         level: 9,
         steps: &WIDE,
     },
     Case {
-        prime: 3,
+        text: MODULO_3,
         level: 20,
         steps: &LONG,
     },
@@ -187,7 +191,12 @@ fn steps_answer(rt: HostRuntime) -> Result<(), Fail> {
 
 /// The place of the first step that answers something else.
 fn first_failure(alloc: Global, case: &Case) -> Result<Option<usize>, Fail> {
-    let mut table = table_of(alloc, case.prime, case.level)?;
+    let mut table = opened(alloc, case.text)?;
+    for _ in 0..case.level {
+        if !grow(&mut table)? {
+            return Err("a level is too large".into());
+        }
+    }
     for (at, step) in case.steps.iter().enumerate() {
         if !passes(alloc, &mut table, step)? {
             return Ok(Some(at));
@@ -196,39 +205,7 @@ fn first_failure(alloc: Global, case: &Case) -> Result<Option<usize>, Fail> {
     Ok(None)
 }
 
-/// The table of one generator and one letter at a level, modulo a prime, where every vector vanishes.
-fn table_of(alloc: Global, prime: u64, level: u32) -> Result<Table, Fail>
-    ensures { IfOk result (λ table. slice_get (relators (presented table)) 0 ≡ Some (unit [])) }
-{
-    let Some(field) = Field::new(prime) else {
-        return Err(Memory.into());
-    };
-    let mut table = Table::open(alloc, vanishing(alloc, field)?)?;
-    for _ in 0..level {
-        if table.next_size() > 1_000 || table.level() > 1_000 {
-            return Err(Memory.into());
-        }
-        table.grow_level()?;
-    }
-    Ok(table)
-}
-
-/// One generator and one letter under the relation 1 = 0.
-fn vanishing(alloc: Global, field: Field) -> Result<Presentation, Fail>
-    ensures { IfOk result (λ draft. slice_get (relators draft.presentation) 0 ≡ Some (unit [])) }
-{
-    field.has_prime();
-    let mut presentation = Presentation::new(alloc, field);
-    presentation.add_letter("x")?;
-    let one = FreeAlg::constant(alloc, &field, 1)?;
-    presentation.add_relation(one)?;
-    Ok(presentation)
-}
-
-fn passes(alloc: Global, table: &mut Table, step: &Step) -> Result<bool, Memory>
-    requires { slice_get (relators (presented table.old)) 0 ≡ Some (unit []) }
-    ensures { table.new.draft ≡ table.old.draft }
-{
+fn passes(alloc: Global, table: &mut Table, step: &Step) -> Result<bool, Memory> {
     match step {
         Step::Delete(vector, answer, forward) => deletes(alloc, table, vector, *answer, forward),
         Step::Resolve(vector, resolved) => resolves(alloc, table, vector, resolved),
@@ -240,34 +217,26 @@ fn passes(alloc: Global, table: &mut Table, step: &Step) -> Result<bool, Memory>
 fn deletes(
     alloc: Global,
     table: &mut Table,
-    vector: &[(u32, u8)],
+    vector: Terms,
     answer: Option<u32>,
-    forward: &[(u32, u8)],
-) -> Result<bool, Memory>
-    requires { slice_get (relators (presented table.old)) 0 ≡ Some (unit []) }
-    ensures { table.new.draft ≡ table.old.draft }
-{
+    forward: Terms,
+) -> Result<bool, Memory> {
     table.is_sound();
-    let vector = vector_of(alloc, table, vector)?;
-    if !is_row(table, &vector) || !has_live_ids(table, &vector) {
+    let vector = vector_of(alloc, table.presentation().field(), vector)?;
+    if !is_row(table, &vector) || !table.has_live_ids(&vector) || !has_relator_one(table) {
         return Ok(false);
     }
     if delete(table, vector) != answer {
         return Ok(false);
     }
     Ok(match answer {
-        Some(id) => has_forward(table, id, forward),
+        Some(id) => id < table.id_count() && is_vector_at(table.forward(id), Some(forward)),
         None => true,
     })
 }
 
-fn resolves(
-    alloc: Global,
-    table: &Table,
-    vector: &[(u32, u8)],
-    resolved: &[(u32, u8)],
-) -> Result<bool, Memory> {
-    let vector = vector_of(alloc, table, vector)?;
+fn resolves(alloc: Global, table: &Table, vector: Terms, resolved: Terms) -> Result<bool, Memory> {
+    let vector = vector_of(alloc, table.presentation().field(), vector)?;
     if !is_row(table, &vector) {
         return Ok(false);
     }
@@ -275,7 +244,7 @@ fn resolves(
     Ok(is_vector(&found, resolved))
 }
 
-fn has_image(alloc: Global, table: &Table, dead: u32, image: &[(u32, u8)]) -> Result<bool, Memory> {
+fn has_image(alloc: Global, table: &Table, dead: u32, image: Terms) -> Result<bool, Memory> {
     if !table.has_row(dead, 0) || table.forward(dead).is_none() {
         return Ok(false);
     }
@@ -288,61 +257,33 @@ fn rewrites(
     table: &mut Table,
     id: u32,
     had: bool,
-    row: &[(u32, u8)],
-) -> Result<bool, Memory>
-    ensures { table.new.draft ≡ table.old.draft }
-{
+    row: Terms,
+) -> Result<bool, Memory> {
     if !table.has_row(id, 0) {
         return Ok(false);
     }
     let answer = rewrite(alloc, table, id, 0)?;
-    Ok(answer == had && is_vector_at(table.row(id, 0), row))
-}
-
-/// The sum of the terms. Coefficients are taken modulo the prime.
-fn vector_of(alloc: Global, table: &Table, terms: &[(u32, u8)]) -> Result<Sparse, Memory> {
-    let field = *table.presentation().field();
-    field.has_prime();
-    let mut sum = Sparse::zero(alloc);
-    for (id, coef) in terms {
-        let coef = field.reduce(u128::from(*coef));
-        add_term(&mut sum, &field, Term { id: *id, coef })?;
-    }
-    Ok(sum)
+    Ok(answer == had && is_vector_at(table.row(id, 0), Some(row)))
 }
 
 /// Whether the ids are the table's and the coefficients residues.
 fn is_row(table: &Table, vector: &Sparse) -> bool
     ensures { IsTrue result → IsRow (presented table.now).prime (length table.now.words) vector.now }
 {
-    for at in 0..vector.len() {
-        if vector.term(at).id >= table.id_count() {
-            return false;
-        }
-    }
-    vector.fits(table.presentation().field())
+    let Some(greatest) = vector.leading() else {
+        return true;
+    };
+    greatest.id < table.id_count() && vector.fits(table.presentation().field())
 }
 
-fn has_forward(table: &Table, id: u32, forward: &[(u32, u8)]) -> bool {
-    id < table.id_count() && is_vector_at(table.forward(id), forward)
-}
-
-fn is_vector_at(vector: Option<&Sparse>, terms: &[(u32, u8)]) -> bool {
-    match vector {
-        Some(vector) => is_vector(vector, terms),
-        None => false,
-    }
-}
-
-fn is_vector(vector: &Sparse, terms: &[(u32, u8)]) -> bool {
-    if vector.len() != terms.len() {
+/// Whether the first relator is 1, so that every vector vanishes.
+fn has_relator_one(table: &Table) -> bool
+    ensures { IsTrue result → slice_get (relators (presented table.now)) 0 ≡ Some (unit []) }
+{
+    let presentation = table.presentation();
+    if presentation.relator_count() == 0 {
         return false;
     }
-    for at in 0..vector.len() {
-        let (id, coef) = terms[at];
-        if vector.term(at) != (Term { id, coef }) {
-            return false;
-        }
-    }
-    true
+    let relator = presentation.relator(0);
+    relator.term_count() == 1 && relator.coef_at(0) == 1 && relator.word_at(0).is_empty()
 }

@@ -1,6 +1,0 @@
-use Rattle.std.proofs.Common.{◌<◌}
-use Rattle.ve_theory.specs.Combinations.{IsReduced}
-use Rattle.ve_settle.proofs.tests.vector_of.Given as goal
-
-abbrev pub invariant-loop-id : goal.invariant-loop-id
-invariant-loop-id l = IsReduced ◌<◌ l.field l.sum
