@@ -6,6 +6,7 @@ ghost use Rattle.ve_level_uses.specs.Working.{IsReady, StartsReady};
 
 mod answers;
 mod seats;
+mod three_cycle;
 
 use crate::work;
 use std::alloc::Global;

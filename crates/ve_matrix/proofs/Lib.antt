@@ -6,4 +6,3 @@ pub mod Answering
 pub mod BasisWords
 pub mod RisingWords
 pub mod Naming
-pub mod TripleAnswers

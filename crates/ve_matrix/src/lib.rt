@@ -8,6 +8,3 @@ mod matrix;
 pub use answer::{Answer, answers_are_traced};
 pub use disorder::Disorder;
 pub use matrix::Matrix;
-
-#[cfg(test)]
-mod tests;

@@ -1,8 +1,8 @@
 use Rattle.std.proofs.Common.{refl, ap, length, ◌∙◌}
 use Rattle.std.proofs.lemmas.List.{length-map}
 use Rattle.ve_theory.specs.Combinations.{unit}
-use Rattle.ve_matrix.proofs.TripleAnswers.{triple_value}
-use Rattle.ve_matrix.proofs.tests.answer.Goals as goal
+use Rattle.ve_level_uses.proofs.TripleAnswers.{triple_value}
+use Rattle.ve_level_uses.proofs.tests.three_cycle.answer.Goals as goal
 
 pub returns-clause-value : goal.returns-clause-value
 returns-clause-value c =

@@ -1,6 +1,6 @@
 use Rattle.ve_pres.specs.Terms.{HasLettersBelow, HasWordsBelow}
-use Rattle.ve_matrix.proofs.TripleAnswers.{letter_below, root_below}
-use Rattle.ve_matrix.proofs.tests.relation.Goals as goal
+use Rattle.ve_level_uses.proofs.TripleAnswers.{letter_below, root_below}
+use Rattle.ve_level_uses.proofs.tests.three_cycle.relation.Goals as goal
 
 pub returns-clause-words : goal.returns-clause-words
 returns-clause-words c =

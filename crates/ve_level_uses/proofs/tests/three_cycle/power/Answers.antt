@@ -1,7 +1,7 @@
 use Rattle.std.proofs.Common.{◌≡◌, ◌<◌, All, sym, subst}
 use Rattle.ve_theory.specs.Words.{start, letters}
-use Rattle.ve_matrix.proofs.TripleAnswers.{letter_pushed, root_pair}
-use Rattle.ve_matrix.proofs.tests.power.Goals as goal
+use Rattle.ve_level_uses.proofs.TripleAnswers.{letter_pushed, root_pair}
+use Rattle.ve_level_uses.proofs.tests.three_cycle.power.Goals as goal
 
 pub loop-init : goal.loop-init
 loop-init c = root_pair _ c.root-word.ensures

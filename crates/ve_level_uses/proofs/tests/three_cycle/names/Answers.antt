@@ -1,6 +1,6 @@
 use Rattle.std.proofs.Common.{refl}
 use Rattle.ve_theory.specs.Validity.{is_name}
-use Rattle.ve_matrix.proofs.tests.names.Goals as goal
+use Rattle.ve_level_uses.proofs.tests.three_cycle.names.Goals as goal
 
 pub add-requires : goal.add-requires
 unfolding is_name

@@ -1,4 +1,6 @@
-ghost use Rattle.std.specs.Prelude.{◌≡◌, ℕ, ◌<◌, ◌≤◌, ◌↔◌, [], ◌∷◌, All, IfOk, IsTrue, length, map};
+//! Matrices and answers that are written down: the three-cycle, in order and out of it.
+
+ghost use Rattle.std.specs.Prelude.{◌≡◌, ◌<◌, ◌≤◌, ◌↔◌, [], ◌∷◌, All, IfOk, IsTrue, length, map};
 ghost use Rattle.ve_theory.specs.Combinations.{IsReduced, unit};
 ghost use Rattle.ve_theory.specs.Words.{Shortlex, letters, start};
 ghost use Rattle.ve_theory.specs.Presentations.{most_weight};
@@ -6,13 +8,14 @@ ghost use Rattle.ve_pres.specs.Terms.{HasWordsBelow};
 ghost use Rattle.ve_matrix.specs.Answers.{IsAnswerValue};
 ghost use Rattle.ve_matrix.specs.Matrices.{HasResidues};
 
-use super::*;
+use super::is_unit;
 use std::alloc::Global;
 use std::test::Fail;
 use ve_field::Field;
+use ve_matrix::{Answer, Disorder, Matrix};
 use ve_pres::{FreeAlg, FreeMod, PresFault, Presentation};
 use ve_table::Origin;
-use ve_vec::{Sparse, Term};
+use ve_vec::Sparse;
 use ve_word::{Memory, NameFault, Names, Word};
 
 /// For each row the place of its 1.
@@ -38,7 +41,7 @@ fn matrix(alloc: Global, places: &[u32]) -> Result<Matrix, Memory>
     requires count { length places.now ≡ 3 }
     requires places { All (λ place. place < 3) places.now }
     ensures rows { IfOk result (λ matrix. matrix ≡ map unit places.now) }
-    ensures residues { IfOk result (λ matrix. (p : ℕ) → 1 < p → HasResidues p matrix) }
+    ensures residues { IfOk result (HasResidues 7) }
 {
     let rows = units(alloc, places)?;
     Ok(Matrix::of_rows(rows))
@@ -122,10 +125,6 @@ fn seven() -> Result<Field, Fail>
     }
 }
 
-fn is_unit(row: &Sparse, place: u32) -> bool {
-    row.len() == 1 && row.term(0) == (Term { id: place, coef: 1 })
-}
-
 #[test]
 fn matrices_of_the_three_cycle(rt: HostRuntime) -> Result<(), Fail> {
     let alloc = rt.alloc();
@@ -136,13 +135,13 @@ fn matrices_of_the_three_cycle(rt: HostRuntime) -> Result<(), Fail> {
     let identity = Matrix::identity(alloc, 3)?;
     assert_eq!(rt; product.size(), 3);
     for place in 0..product.size() {
-        assert!(rt; is_unit(product.row(place), place));
+        assert!(rt; is_unit(Some(product.row(place)), place));
     }
     for place in 0..identity.size() {
-        assert!(rt; is_unit(identity.row(place), place));
+        assert!(rt; is_unit(Some(identity.row(place)), place));
     }
     let row = next.apply(&field, &Sparse::unit(alloc, 1))?;
-    assert!(rt; is_unit(&row, 2));
+    assert!(rt; is_unit(Some(&row), 2));
     Ok(())
 }
 
@@ -200,7 +199,7 @@ fn values_in_the_three_cycle(rt: HostRuntime) -> Result<(), Fail> {
     let answer = answer(alloc, seven()?, 0, &NEXT, &BEFORE)?;
     for (exponent, place) in [(0, 0), (1, 1), (2, 2), (3, 0)] {
         let row = value_of_power(alloc, &answer, exponent)?;
-        assert!(rt; is_unit(&row, place));
+        assert!(rt; is_unit(Some(&row), place));
     }
     let zero = value_of_relation(alloc, &answer)?;
     assert_eq!(rt; zero.len(), 0);
