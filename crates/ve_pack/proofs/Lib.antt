@@ -1,5 +1,3 @@
-pub mod Falling
 pub mod Resolved
 pub mod Steps
-pub mod Vectors
 pub mod Dropping

@@ -11,9 +11,8 @@ use crate::live::has_live_ids;
 use std::alloc::Global;
 use ve_machine::finished::stays_finished;
 use ve_machine::forwards::forwardings_are_a_space;
-use ve_settle::{resolutions_keep_words, resolve, words_rise_with_ids};
+use ve_settle::{resolutions_keep_words, resolve};
 use ve_table::Table;
-use ve_theory::order::{reach_adds_up, reaches_are_bounded};
 use ve_vec::Rows;
 use ve_word::Memory;
 
@@ -44,13 +43,7 @@ fn resolve_rows(alloc: Global, table: &mut Table, dead: u32) -> Result<(), Memor
     ensures live { OnOk result ((b x : ℕ) → IsLive table.new b → HasLiveRow table.new b x) }
 {
     forwardings_are_a_space();
-    reach_adds_up();
-    reaches_are_bounded();
-    words_rise_with_ids();
-    // No id of a row reaches further than its product.
-    let step = u32::from(table.presentation().greatest_weight());
-    let least = table.reach(dead).saturating_sub(step);
-    let first = table.first_of_reach(u64::from(least));
+    let first = table.first_naming(dead);
     for id in first..table.id_count() {
         if table.is_live(id) {
             resolve_rows_of(alloc, table, id, dead)?;

@@ -1,6 +1,6 @@
-use Rattle.std.proofs.Common.{◌≡◌, Some, IsTrue, sym, subst, ◌∙◌}
+use Rattle.std.proofs.Common.{◌≡◌, Some, sym, subst, ◌∙◌}
 use Rattle.ve_theory.specs.Words.{generator}
-use Rattle.ve_table.specs.Tables.{ActionTable, presented}
+use Rattle.ve_table.specs.Tables.{ActionTable}
 use Rattle.ve_table.specs.Sound.{IsSound, HasLiveIds}
 use Rattle.ve_machine.specs.Finished.{IsFinishedTable}
 use Rattle.ve_pack.specs.Packing.{IsPartlyResolved}
@@ -8,8 +8,8 @@ use Rattle.ve_pack.specs.LiveVectors.{HasLiveImage}
 use Rattle.ve_pack.proofs.Steps.{image_resolved, image_set_here}
 use Rattle.ve_pack.proofs.resolving.resolve_image.Goals as goal
 
-pub has_live_ids-requires-clause-row : goal.has_live_ids-requires-clause-row
-has_live_ids-requires-clause-row c = (c.requires.finished.sound.images c.args.root c.image-image.result.now c.image-image.ensures).stands.row
+pub has_live_ids-requires-clause-ids : goal.has_live_ids-requires-clause-ids
+has_live_ids-requires-clause-ids c = (c.requires.finished.sound.images c.args.root c.image-image.result.now c.image-image.ensures).stands.row.1
 
 pub resolve-requires : goal.resolve-requires
 resolve-requires c = (c.requires.finished.sound.images c.args.root c.image-image.result.now c.image-image.ensures).stands.row

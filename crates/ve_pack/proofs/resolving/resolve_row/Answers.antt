@@ -1,6 +1,6 @@
-use Rattle.std.proofs.Common.{◌≡◌, Some, IsTrue, sym, subst, ◌∙◌}
+use Rattle.std.proofs.Common.{◌≡◌, Some, sym, subst, ◌∙◌}
 use Rattle.ve_theory.specs.Words.{times}
-use Rattle.ve_table.specs.Tables.{ActionTable, presented, word_at}
+use Rattle.ve_table.specs.Tables.{ActionTable, word_at}
 use Rattle.ve_table.specs.Sound.{IsSound, HasLiveIds}
 use Rattle.ve_machine.specs.Finished.{IsFinishedTable}
 use Rattle.ve_pack.specs.Packing.{IsPartlyResolved}
@@ -8,8 +8,8 @@ use Rattle.ve_pack.specs.LiveVectors.{HasLiveRow}
 use Rattle.ve_pack.proofs.Steps.{row_resolved, row_set_here}
 use Rattle.ve_pack.proofs.resolving.resolve_row.Goals as goal
 
-pub has_live_ids-requires-clause-row : goal.has_live_ids-requires-clause-row
-has_live_ids-requires-clause-row c = (c.requires.finished.sound.rows c.args.id c.args.letter c.in-Some.row.now (sym c.in-Some.ensures)).stands.row
+pub has_live_ids-requires-clause-ids : goal.has_live_ids-requires-clause-ids
+has_live_ids-requires-clause-ids c = (c.requires.finished.sound.rows c.args.id c.args.letter c.in-Some.row.now (sym c.in-Some.ensures)).stands.row.1
 
 pub resolve-requires : goal.resolve-requires
 resolve-requires c = (c.requires.finished.sound.rows c.args.id c.args.letter c.in-Some.row.now (sym c.in-Some.ensures)).stands.row

@@ -1,11 +1,8 @@
-use Rattle.std.proofs.Common.{ℕ, IsTrue, ap, arith, below_more}
-use Rattle.ve_theory.specs.Presentations.{greatest_step}
-use Rattle.ve_pres.specs.Drafts.{Draft}
-use Rattle.ve_table.specs.Tables.{presented, IsLive}
+use Rattle.std.proofs.Common.{ℕ, IsTrue, get_or, below_more}
+use Rattle.ve_table.specs.Tables.{IsLive}
 use Rattle.ve_pack.specs.LiveVectors.{HasLiveRow}
 use Rattle.ve_machine.proofs.Forwardings.{positive_prime}
 use Rattle.ve_pack.proofs.Steps.{resolved_further, nothing_resolved, rows_stay_live}
-use Rattle.ve_pack.proofs.Vectors.{low_row_live}
 use Rattle.ve_pack.proofs.resolving.resolve_rows.Goals as goal
 use Rattle.ve_pack.proofs.resolving.resolve_rows.Goals.{then-is_live+in_ok-resolve_rows_of, else-is_live}
 
@@ -13,20 +10,7 @@ pub loop-id-init : goal.loop-id-init
 loop-id-init c = record {
   finished = c.requires.finished;
   resolved = nothing_resolved c.args.table.now;
-  live = λ b less live x v found.
-      low_row_live c.args.table.now c.requires.finished.sound (c.words_rise_with_ids.ensures c.args.table.now c.requires.finished.sound)
-      c.reach_adds_up.ensures (c.reaches_are_bounded.ensures (presented c.args.table.now) c.requires.finished.sound.valid.presentation)
-      c.args.dead c.requires.below b x v found
-      (omega (
-        arith,
-        c.first_of_reach-first.ensures.below b less,
-        c.saturating_sub-least.ensures,
-        c.from.ensures,
-        c.reach.ensures.reach,
-        c.from-step.ensures,
-        c.greatest_weight.ensures,
-        ap (λ (d : Draft). greatest_step d.presentation) c.presentation.ensures.value,
-      ));
+  live = λ b less live x v found k d lt. c.requires.below (get_or v k d).0 (c.first_naming-first.ensures.below b x v less found k d lt);
 }
 
 pub returns-in_err-resolve_rows_of-clause-resolved : goal.returns-in_err-resolve_rows_of-clause-resolved
