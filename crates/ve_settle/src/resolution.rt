@@ -7,7 +7,6 @@ ghost use Rattle.ve_machine.specs.Forwards.{IsResolved};
 ghost use Rattle.ve_settle.specs.Settling.{ForwardingsResolveToZero, ResolutionsAreUnique, ResolutionsKeepWords};
 
 use crate::falling::FallingSum;
-use crate::live::has_live_ids;
 use crate::span::resolve_over_span;
 use crate::terms::add_term;
 use std::alloc::Global;
@@ -41,7 +40,7 @@ pub fn into_resolved(alloc: Global, table: &Table, vector: Sparse) -> Result<Spa
     ensures ids { IfOk result (λ v. (bound : ℕ) → All (λ t. t.0 ≤ bound) vector → All (λ t. t.0 ≤ bound) v) }
 {
     table.is_sound();
-    if has_live_ids(table, &vector) {
+    if table.has_live_ids(&vector) {
         return Ok(vector);
     }
     let resolved = resolve_by_falling_ids(alloc, table, vector)?;

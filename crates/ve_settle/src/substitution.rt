@@ -5,7 +5,6 @@ ghost use Rattle.ve_table.specs.Sound.{IsSound};
 ghost use Rattle.ve_machine.specs.Forwards.{IsRewritten};
 ghost use Rattle.ve_settle.specs.Settling.{Rewrites};
 
-use crate::live::has_live_ids;
 use crate::rows::row_of;
 use crate::terms::add_term;
 use std::alloc::Global;
@@ -23,7 +22,7 @@ pub fn rewrite(alloc: Global, table: &mut Table, id: u32, letter: u8) -> Result<
     table.is_sound();
     ve_theory::order::words_are_ordered();
     let row = row_of(table, id, letter);
-    if has_live_ids(table, row) {
+    if table.has_live_ids(row) {
         return Ok(false);
     }
     let next = rewritten(alloc, table, row)?;
