@@ -8,7 +8,6 @@ ghost use Rattle.ve_core.specs.Moving.{Tries};
 use crate::CoreState;
 use crate::desk::Desk;
 use crate::entry::Entry;
-use crate::live::has_live_ids;
 use crate::sum::take_sum;
 use ve_machine::hands::moves_go_right;
 use ve_machine::seats::steps_keep_sound;
@@ -36,7 +35,7 @@ impl CoreState {
             return false;
         }
         match self.sum(seat) {
-            Some(vector) => has_live_ids(&self.table, vector),
+            Some(vector) => self.table.has_live_ids(vector),
             None => false,
         }
     }

@@ -9,7 +9,6 @@ mod event;
 mod giving_back;
 mod hands;
 mod lifting;
-mod live;
 mod reading;
 mod rewriting;
 mod run;
