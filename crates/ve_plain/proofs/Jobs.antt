@@ -1,21 +1,24 @@
 -- Jobs of relations, until all are done.
-use Rattle.std.proofs.Common.{◌≡◌, ℕ, ◌+◌, ◌<◌, ◌≤◌, inl, inr, Some, None, All, [], length, get_or, sym, ap, subst, ◌∙◌, arith, below_more}
-use Rattle.std.specs.Prelude.{slice_index_or}
+use Rattle.std.proofs.Common.{◌≡◌, ℕ, ◌+◌, ◌<◌, ◌≤◌, inl, inr, Some, None, All, List, [], length, get_or, sym, ap, subst, ◌∙◌, arith, below_more}
+use Rattle.std.specs.Prelude.{Contains, slice_index, slice_index_or}
+use Rattle.std.proofs.lemmas.List.{get_or_default}
 use Rattle.std.proofs.lemmas.Option.{get_or_from_slice_get, slice_get_within}
 use Rattle.ve_theory.specs.Words.{generator}
-use Rattle.ve_theory.specs.Presentations.{due, element_reach, relator, submodule_relation}
+use Rattle.ve_theory.specs.Presentations.{element_reach, reach, submodule_relation}
 use Rattle.ve_theory.specs.Answers.{Row}
-use Rattle.ve_table.specs.Tables.{ActionTable, presented, word_at}
+use Rattle.ve_table.specs.Tables.{ActionTable, presented, reach_at}
 use Rattle.ve_table.specs.Sound.{IsSound}
 use Rattle.ve_machine.specs.Forwards.{Forwards}
 use Rattle.ve_machine.specs.Finished.{IsFinishedTable, IsOpening}
 use Rattle.ve_machine.specs.Jobs.{HasForward, IsSettled, image_value, relator_value, submodule_value}
 use Rattle.ve_machine.specs.Jobs.IsKnownBelow.{by_forwards}
 use Rattle.ve_machine.specs.Laws.{NothingLeftIsFinished, OpeningsAreUnderWay}
+use Rattle.ve_plain.specs.Due.{due_numbers}
 use Rattle.ve_plain.specs.Working.{Continues, HaveImagesBut, IsAtWork, KnowsRelator, KnowsRelators, KnowsSubmodule}
 use Rattle.ve_plain.specs.Works.{Settles}
 use Rattle.ve_plain.specs.declared.work.Work.{Work}
 use Rattle.ve_machine.proofs.Forwardings.{positive_prime}
+use Rattle.ve_plain.proofs.DueNumbers.{every_due}
 use Rattle.ve_plain.proofs.Known.{later, live_before, on_table}
 use Rattle.ve_plain.proofs.Settling.{Settles-trans}
 
@@ -26,9 +29,10 @@ relator_stays O A B at_work continues b number known = λ live is_due.
 submodule_stays : (O A B : ActionTable) → IsAtWork O A → Continues A B → (number : ℕ) → KnowsSubmodule O A.forwards number → KnowsSubmodule O B.forwards number
 submodule_stays O A B at_work continues number known = λ is_due. continues.known O (submodule_value O number) (positive_prime O at_work.sound) (known is_due)
 
--- the relators below a number at an id; those at the ids below one; the submodule relations below a number
-abbrev pub KnowsRelatorsBelow : Work → Work → ℕ → ℕ → Type 0
-KnowsRelatorsBelow old now id count = (O : ActionTable) → IsAtWork O old.table → (number : ℕ) → number < count → KnowsRelator O now.table.forwards id number
+-- the relators at places below one of a list, at an id; those at the ids below one; the submodule relations below a number
+abbrev pub KnowsRelatorsBelow : Work → Work → ℕ → List ℕ → ℕ → Type 0
+KnowsRelatorsBelow old now id numbers count =
+    (O : ActionTable) → IsAtWork O old.table → (place : ℕ) → place < count → KnowsRelator O now.table.forwards id (slice_index numbers place)
 
 abbrev pub KnowsIdsBelow : Work → Work → ℕ → Type 0
 KnowsIdsBelow old now count = (O : ActionTable) → IsAtWork O old.table → (b : ℕ) → b < count → KnowsRelators O now.table.forwards b
@@ -38,11 +42,12 @@ KnowsSubmoduleBelow old now count = (O : ActionTable) → IsAtWork O old.table �
 
 -- one more of each
 module _ (old now after : Work) (first : Continues old.table now.table) (second : Continues now.table after.table) where
-  pub one_more_relator : (id number : ℕ) → KnowsRelatorsBelow old now id number → ((O : ActionTable) → IsAtWork O now.table → KnowsRelator O after.table.forwards id number)
-      → KnowsRelatorsBelow old after id (number + 1)
-  one_more_relator id number below here = λ O at_work.
+  pub one_more_relator : (id place : ℕ) (numbers : List ℕ) → KnowsRelatorsBelow old now id numbers place
+      → ((O : ActionTable) → IsAtWork O now.table → KnowsRelator O after.table.forwards id (slice_index numbers place)) → KnowsRelatorsBelow old after id numbers (place + 1)
+  one_more_relator id place numbers below here = λ O at_work.
       let at_work_then : IsAtWork O now.table = later O old.table now.table at_work first in
-      below_more (λ k. KnowsRelator O after.table.forwards id k) number (λ k lt. relator_stays O now.table after.table at_work_then second id k (below O at_work k lt)) (here O at_work_then)
+      below_more (λ k. KnowsRelator O after.table.forwards id (slice_index numbers k)) place
+      (λ k lt. relator_stays O now.table after.table at_work_then second id (slice_index numbers k) (below O at_work k lt)) (here O at_work_then)
 
   pub one_more_id : (id : ℕ) → KnowsIdsBelow old now id → ((O : ActionTable) → IsAtWork O now.table → KnowsRelators O after.table.forwards id) → KnowsIdsBelow old after (id + 1)
   one_more_id id below here = λ O at_work.
@@ -56,12 +61,18 @@ module _ (old now after : Work) (first : Continues old.table now.table) (second 
       let at_work_then : IsAtWork O now.table = later O old.table now.table at_work first in
       below_more (λ k. KnowsSubmodule O after.table.forwards k) number (λ k lt. submodule_stays O now.table after.table at_work_then second k (below O at_work k lt)) (here O at_work_then)
 
--- a job that isn't due
-pub due_there : (O T : ActionTable) (b number : ℕ) → IsAtWork O T → due (presented O) (word_at O b) (relator (presented O) number) ≡ O.level
-    → due (presented T) (word_at T b) (relator (presented T) number) ≡ T.level
-due_there O T b number at_work is_due =
-    on_table (λ d k ws. due d.presentation (slice_index_or ws b (generator 0)) (relator d.presentation number) ≡ k) O T at_work is_due
+-- the list of those that are due leaves out no job
+pub each_relator : (old now : Work) (id count : ℕ) (numbers : List ℕ) → numbers ≡ due_numbers (presented old.table) old.table.level (reach_at old.table id) → length numbers ≤ count
+    → KnowsRelatorsBelow old now id numbers count → (O : ActionTable) → IsAtWork O old.table → KnowsRelators O now.table.forwards id
+each_relator old now id count numbers are all below O at_work number within live is_due =
+    let there : Contains (due_numbers (presented old.table) old.table.level (reach_at old.table id)) number =
+    on_table (λ d k ws. Contains (due_numbers d.presentation k (reach d.presentation (slice_index_or ws id (generator 0)))) number) O old.table at_work
+    (every_due (presented O) O.level (reach_at O id) number within is_due) in
+    let found : Contains numbers number = subst (λ l. Contains l number) (sym are) there in
+    let same : slice_index numbers found.0 ≡ number = get_or_default numbers found.0 0 number found.1 ∙ found.2 in
+    subst (KnowsRelator O now.table.forwards id) same (below O at_work found.0 (omega (arith, found.1, all))) live is_due
 
+-- a job that isn't due
 pub reach_there : (O T : ActionTable) (number : ℕ) → IsAtWork O T → element_reach (presented O) (submodule_relation (presented O) number) ≡ O.level
     → element_reach (presented T) (submodule_relation (presented T) number) ≡ T.level
 reach_there O T number at_work is_due = on_table (λ d k ws. element_reach d.presentation (submodule_relation d.presentation number) ≡ k) O T at_work is_due

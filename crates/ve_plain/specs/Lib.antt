@@ -1,3 +1,4 @@
 pub mod Working
 pub mod Works
 pub mod SameLevel
+pub mod Due

@@ -2,6 +2,7 @@
 #![tactic(auto)]
 
 mod closing;
+mod due;
 mod ids;
 mod images;
 mod relations;

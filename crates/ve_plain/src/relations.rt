@@ -2,11 +2,13 @@
 
 ghost use Rattle.std.specs.Prelude.{◌≡◌, ◌<◌, ◌≤◌, [], ℕ, OnOk, length};
 ghost use Rattle.ve_theory.specs.Presentations.{due, element_reach, relator, relators, submodule_relation};
-ghost use Rattle.ve_table.specs.Tables.{ActionTable, IsId, presented, word_at};
+ghost use Rattle.ve_table.specs.Tables.{ActionTable, IsId, presented, reach_at, word_at};
 ghost use Rattle.ve_machine.specs.Known.{Known};
 ghost use Rattle.ve_machine.specs.Jobs.{relator_value, submodule_value};
+ghost use Rattle.ve_plain.specs.Due.{due_numbers};
 ghost use Rattle.ve_plain.specs.Working.{Continues, IsAtWork, KnowsRelators, KnowsSubmodule};
 
+use crate::due::put_due;
 use crate::ids::first_due;
 use crate::tracing::{traced_relator, traced_submodule_relation};
 use crate::work::Work;
@@ -41,28 +43,35 @@ impl Work {
         ensures done { OnOk result ((O : ActionTable) → IsAtWork O self.old.table → (b : ℕ) → KnowsRelators O self.new.table.forwards b) }
     {
         self.table.is_sound();
+        let mut numbers = Vec::new(self.alloc);
+        let mut reach = None;
         for id in first_due(&self.table)..self.table.id_count() {
-            self.relators_at(id)?;
+            // Ids stand by rising reach, so each list is made once.
+            let here = self.table.reach(id);
+            if reach != Some(here) {
+                put_due(&self.table, id, &mut numbers)?;
+                reach = Some(here);
+            }
+            self.relators_at(id, &numbers)?;
         }
         Ok(())
     }
 
-    /// Does the relator jobs of an id, as long as it is live.
-    fn relators_at(&mut self, id: u32) -> Result<(), Memory>
+    /// Does the jobs of an id and the relators that are due at it, as long as it is live.
+    fn relators_at(&mut self, id: u32, numbers: &[u32]) -> Result<(), Memory>
         requires id { IsId self.old.table id }
+        requires numbers { numbers.now ≡ due_numbers (presented self.old.table) self.old.table.level (reach_at self.old.table id) }
         requires idle { self.old.waiting.items ≡ [] }
         ensures continues { Continues self.old.table self.new.table }
         ensures settles { OnOk result (Settles self.old self.new) }
         ensures done { OnOk result ((O : ActionTable) → IsAtWork O self.old.table → KnowsRelators O self.new.table.forwards id) }
     {
         self.table.is_sound();
-        for number in 0..self.table.presentation().relator_count() {
+        for number in numbers {
             if !self.table.is_live(id) {
                 return Ok(());
             }
-            if self.table.due(id, number) == u64::from(self.table.level()) {
-                self.relator(id, number)?;
-            }
+            self.relator(id, *number)?;
         }
         Ok(())
     }
