@@ -15,6 +15,3 @@ mod tracing;
 
 pub use hand::Hand;
 pub use job::Job;
-
-#[cfg(test)]
-mod tests;

@@ -5,6 +5,7 @@ ghost use Rattle.ve_levels.specs.Advancing.{most_limit};
 ghost use Rattle.ve_level_uses.specs.Working.{IsReady, StartsReady};
 
 mod answers;
+mod hands;
 mod seats;
 mod three_cycle;
 
