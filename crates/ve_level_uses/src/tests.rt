@@ -5,6 +5,7 @@ ghost use Rattle.ve_levels.specs.Advancing.{most_limit};
 ghost use Rattle.ve_level_uses.specs.Working.{IsReady, StartsReady};
 
 mod answers;
+mod finished;
 mod hands;
 mod seats;
 mod three_cycle;
@@ -13,11 +14,9 @@ use crate::work;
 use std::alloc::Global;
 use std::test::Fail;
 use ve_levels::{Advanced, Opened, start};
-use ve_pack::pack;
-use ve_plain::close_level;
 use ve_read::read;
 use ve_table::Table;
-use ve_vec::{Rows, Sparse, Term};
+use ve_vec::{Sparse, Term};
 use ve_word::Memory;
 
 /// How an enumeration ends: at a closing level, or before a level that is too large.
@@ -128,31 +127,6 @@ fn examples(rt: HostRuntime) -> Result<(), Fail> {
     for (at, example) in EXAMPLES.iter().enumerate() {
         assert!(rt; passes(rt.alloc(), example)?, "at {at}");
     }
-    Ok(())
-}
-
-/// The table of two words that is left of the two-cycle at level 2.
-#[test]
-fn two_cycle_is_packed(rt: HostRuntime) -> Result<(), Fail> {
-    let Some(table) = table_at(rt.alloc(), TWO_CYCLE, 3, 2)? else {
-        return Err(Memory.into());
-    };
-    assert!(rt; table.id_count() == 3);
-    let finished = match close_level(rt.alloc(), table) {
-        Ok(finished) => finished,
-        Err(_short) => return Err(Memory.into()),
-    };
-    assert!(rt; !finished.closes());
-    assert!(rt; !finished.is_packed());
-    let packed = match pack(rt.alloc(), finished) {
-        Ok(packed) => packed,
-        Err(_last) => return Err(Memory.into()),
-    };
-    assert!(rt; packed.is_packed());
-    let table = packed.table();
-    assert!(rt; table.id_count() == 2);
-    assert!(rt; is_unit(table.row(0, 0), 1));
-    assert!(rt; is_unit(table.row(1, 0), 0));
     Ok(())
 }
 

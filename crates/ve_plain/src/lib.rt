@@ -10,6 +10,3 @@ mod tracing;
 mod work;
 
 pub use closing::close_level;
-
-#[cfg(test)]
-mod tests;
