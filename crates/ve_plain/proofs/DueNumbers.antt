@@ -1,6 +1,6 @@
 -- The numbers of the relators that are due.
 use Rattle.std.proofs.Common.{◌≡◌, ◌≢◌, ℕ, ◌+◌, ◌<◌, cond, IfSome, Some, None, List, [], ◌∷◌, ◌++◌, All, length, get_or, sym, ap, subst, ◌∙◌, arith, eq-eqb, ne_eqb}
-use Rattle.std.specs.Prelude.{Bool, Contains, Option, filter, slice_index, slice_index_or}
+use Rattle.std.specs.Prelude.{Contains, Option, filter, slice_index, slice_index_or}
 use Rattle.std.specs.List.{range_with_len}
 use Rattle.std.proofs.lemmas.Bool.{cond-false, cond-true, eqb-true}
 use Rattle.std.proofs.lemmas.List.{append-nil, map-id}

@@ -9,6 +9,7 @@ ghost use Rattle.ve_plain.specs.Working.{Continues, HasImages, IsAtWork};
 use crate::work::Work;
 use ve_machine::work::tracing_is_known;
 use ve_settle::image_of;
+use ve_theory::order::reaches_are_bounded;
 use ve_word::Memory;
 
 impl Work {
@@ -34,7 +35,12 @@ impl Work {
         ensures lasts { OnOk result (Lasts self.old self.new) }
         ensures done { OnOk result ((O : ActionTable) → IsAtWork O self.old.table → HasImages O self.new.table.forwards id) }
     {
+        reaches_are_bounded();
         self.table.is_sound();
+        // A word that reaches the level has no products within it.
+        if self.table.reach(id) == self.table.level() {
+            return Ok(());
+        }
         for letter in 0..self.table.presentation().names().count() {
             if self.table.has_row(id, letter) {
                 self.do_image(id, letter)?;
