@@ -5,6 +5,9 @@ ghost use Rattle.ve_vec.specs.Vectors.{IsVector, without};
 
 use crate::Term;
 
+/// How many terms are looked at one by one, from the least id.
+const FEW: usize = 16;
+
 /// How many of the terms have an id above `id`. They stand by falling id.
 pub(crate) fn count_above(terms: &[Term], id: u32) -> usize
     requires { IsVector (pairs terms.now) }
@@ -12,7 +15,24 @@ pub(crate) fn count_above(terms: &[Term], id: u32) -> usize
     ensures above { AllBefore (λ j k. k < j) id (pairs (take result terms.now)) }
     ensures rest { AllBefore ◌≤◌ id (pairs (drop result terms.now)) }
 {
+    if terms.len() <= FEW {
+        return count_from_end(terms, id);
+    }
     terms.partition_point(|term| id < term.id)
+}
+
+/// The same, from the least id on, near which most terms find their places.
+fn count_from_end(terms: &[Term], id: u32) -> usize
+    requires { IsVector (pairs terms.now) }
+    ensures bound { result ≤ length terms.now }
+    ensures above { AllBefore (λ j k. k < j) id (pairs (take result terms.now)) }
+    ensures rest { AllBefore ◌≤◌ id (pairs (drop result terms.now)) }
+{
+    let mut at = terms.len();
+    while at > 0 && terms[at - 1].id <= id {
+        at -= 1;
+    }
+    at
 }
 
 /// The terms of ids above `id`, and the rest. They stand by falling id.
