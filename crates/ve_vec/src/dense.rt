@@ -133,7 +133,7 @@ fn collect_terms(
     let mut terms = SmallVec::new(alloc);
     terms.reserve(numbers.iter().filter(|number| **number > 0).count())?;
     for at in (0..numbers.len()).rev() {
-        let coef = (numbers[at] % prime) as u8;
+        let coef = residue(numbers[at], prime);
         if coef == 0 {
             continue;
         }
@@ -143,4 +143,17 @@ fn collect_terms(
         })?;
     }
     Ok(terms)
+}
+
+/// The residue of a number, which is 0 at most ids of a wide span: these take no division.
+fn residue(number: u32, prime: u32) -> u8
+    requires prime { 0 < prime }
+    requires small { prime ≤ 256 }
+    ensures { result ≡ number % prime }
+{
+    if number == 0 {
+        0
+    } else {
+        (number % prime) as u8
+    }
 }
