@@ -116,6 +116,14 @@ impl Sparse {
         Some(self.terms.remove(0))
     }
 
+    /// Takes all terms away. The room that they took is kept for others.
+    pub fn clear(&mut self)
+        ensures value { self.new ≡ [] }
+        ensures fits { (p : ℕ) → IsReduced ◌<◌ p self.new }
+    {
+        self.terms.clear();
+    }
+
     /// The coefficient at `id`, which is 0 where there is no such term.
     pub fn coef_of(&self, id: u32) -> u8
         ensures { result ≡ coefficient nat_eq self.now id }

@@ -102,6 +102,16 @@ impl Terms {
         }
     }
 
+    /// Takes all terms away. Room of their own is kept.
+    pub(crate) fn clear(&mut self)
+        ensures { self.new ≡ [] }
+    {
+        match &mut self.held {
+            Held::Few(few) => *few = Few::of(&[]),
+            Held::Many(list) => list.clear(),
+        }
+    }
+
     /// Puts a term in before the one at `at`. Memory is taken where it is the third one.
     pub(crate) fn insert(&mut self, at: usize, term: Term) -> Result<(), Memory>
         requires { at ≤ length self.old }
@@ -115,6 +125,7 @@ impl Terms {
                 self.held = Held::Many(Box::new(self.alloc, list)?);
             }
             Held::Few(few) => few.insert(at, term),
+            Held::Many(list) if at == list.len() => list.push(term)?,
             Held::Many(list) => list.insert(at, term)?,
         }
         Ok(())
