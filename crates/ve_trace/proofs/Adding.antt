@@ -1,8 +1,11 @@
 -- Sums of vectors, as they are added up.
-use Rattle.std.proofs.Common.{◌≡◌, ℕ, ◌+◌, ◌*◌, ◌<◌, nat_eq, [], ◌∷◌, ◌++◌, take, Some, slice_get, sym, ap, subst, ◌∙◌, arith}
+use Rattle.std.proofs.Common.{◌≡◌, ℕ, ◌+◌, ◌*◌, ◌<◌, nat_eq, List, [], ◌∷◌, ◌++◌, length, take, Some, get_or, slice_get, sym, ap, subst, ◌∙◌, arith}
 use Rattle.std.proofs.lemmas.List.{take_more, append-nil}
-use Rattle.std.proofs.lemmas.Option.{get_or_from_slice_get, slice_get_within}
+use Rattle.std.proofs.lemmas.Option.{get_or_from_slice_get, slice_get-get_or, slice_get-map, slice_get_within}
+use Rattle.std.specs.Prelude.{option_map}
 use Rattle.ve_theory.specs.Combinations.{Combination, scaled, IsReduced, IsReducedOf}
+use Rattle.ve_vec.specs.declared.term.Term.{Term}
+use Rattle.ve_vec.specs.Terms.{pair_of, pairs}
 use Rattle.ve_theory.proofs.DerivedElements.{SameWeights-equal}
 use Rattle.ve_theory.proofs.Sums.{weigh-append, weigh-scaled, SameWeights, SameWeights-refl, SameWeights-sym, SameWeights-trans, SameWeights-append, SameWeights-scaled, scaled-one, Alike_from_weights, weights_from_Alike, Decides-nat_eq}
 
@@ -58,3 +61,8 @@ term_added {p} c s {u} {r} v at t is sum result =
     )) in
     subst (λ w. IsReducedOf ◌<◌ nat_eq p r (s ++ scaled c w)) (sym more)
     (onto result (SameWeights-trans (SameWeights-append (weights_of sum) (SameWeights-refl p (scaled c (t ∷ [])))) both))
+
+-- a term of the program, and the vector's term at its place
+pub listed : (items : List Term) (v : Combination ℕ) (at : ℕ) (d : Term) → pairs items ≡ v → at < length items → slice_get v at ≡ Some ((get_or items at d).id, (get_or items at d).coef)
+listed items v at d view within =
+    ap (λ w. slice_get w at) (sym view) ∙ (slice_get-map pair_of items at ∙ ap (option_map pair_of) (slice_get-get_or items at d within))

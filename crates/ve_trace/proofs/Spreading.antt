@@ -1,11 +1,11 @@
 -- Rows whose ids are in a span, and their sums.
-use Rattle.std.proofs.Common.{◌≡◌, ℕ, zero, suc, ◌+◌, ◌-◌, ◌<◌, ◌≤◌, nat_eq, All, [], ◌∷◌, ◌++◌, length, Option, Some, slice_get, ◌⊎◌, inl, inr, sym, ap, ◌∙◌, subst, arith}
+use Rattle.std.proofs.Common.{◌≡◌, ℕ, suc, ◌+◌, ◌-◌, ◌<◌, ◌≤◌, nat_eq, All, [], ◌∷◌, ◌++◌, length, Option, Some, slice_get, inl, inr, sym, ap, ◌∙◌, subst, arith}
 use Rattle.std.proofs.lemmas.Bool.{cases_lt}
 use Rattle.std.proofs.lemmas.List.Elements.{All-nil, All-cons}
-use Rattle.ve_theory.specs.Combinations.{Combination, extended, scaled, Alike, AllBefore, IsReduced, IsReducedOf}
+use Rattle.ve_theory.specs.Combinations.{Combination, extended, scaled, Alike, AllBefore, IsReduced}
 use Rattle.ve_theory.proofs.Sums.{Alike-refl, Alike-append, Decides-nat_eq}
 use Rattle.ve_vec.specs.Spans.{AllBetween}
-use Rattle.ve_vec.specs.Tracing.{PartialTable, vector_times, AreReduced}
+use Rattle.ve_vec.specs.Tracing.{PartialTable, vector_times}
 use Rattle.ve_trace.specs.Parts.{AreRowsBetween, part}
 use Rattle.ve_trace.proofs.Rows.{part-none, part-more, one_more}
 

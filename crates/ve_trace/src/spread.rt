@@ -10,7 +10,7 @@ use crate::sums::row_at;
 use ve_vec::{Rows, Sparse};
 
 /// How many ids of the span there may be for each term of the rows.
-const IDS_A_TERM: u32 = 4;
+const IDS_A_TERM: u32 = 16;
 
 /// Up to how many terms find their places in a sum soon, wherever they lie.
 const FEW_TERMS: usize = 64;

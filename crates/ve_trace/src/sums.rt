@@ -19,9 +19,10 @@ const SHORT: usize = 4;
 
 /// The sum of the rows at a letter that the ids of some terms have, each times its coefficient. Many rows that overlap are added
 /// up over the span of their ids where that is not much longer than they are. Else halves are added up first unless the terms are
-/// few, since each addition costs the length of the sum.
+/// few, since each addition costs the length of the sum. The room of a vector that is no longer wanted may serve for the sum.
 pub(crate) fn sum_of_rows<R: Rows>(
     alloc: Global,
+    room: Sparse,
     rows: &R,
     field: &Field,
     vector: &Sparse,
@@ -37,28 +38,29 @@ pub(crate) fn sum_of_rows<R: Rows>(
     ensures { IfOk result (λ v. IsReducedOf ◌<◌ nat_eq field.now v (vector_times (R.rows rows.now) (part from to vector.now) letter)) }
 {
     if to - from <= FEW {
-        return sum_in_order(alloc, rows, field, vector, letter, from, to);
+        return sum_in_order(room, rows, field, vector, letter, from, to);
     }
     let spread = spread_of_rows(rows, vector, letter, from, to);
     if spread.falls() {
-        return sum_in_order(alloc, rows, field, vector, letter, from, to);
+        return sum_in_order(room, rows, field, vector, letter, from, to);
     }
     if spread.is_dense() {
         return sum_over_span(alloc, rows, field, vector, letter, from, to, &spread);
     }
     if spread.has_few_terms() {
-        return sum_in_order(alloc, rows, field, vector, letter, from, to);
+        return sum_in_order(room, rows, field, vector, letter, from, to);
     }
     let middle = from + (to - from) / 2;
-    let mut sum = sum_of_rows(alloc, rows, field, vector, letter, from, middle)?;
-    let rest = sum_of_rows(alloc, rows, field, vector, letter, middle, to)?;
+    let mut sum = sum_of_rows(alloc, room, rows, field, vector, letter, from, middle)?;
+    let fresh = Sparse::zero(alloc);
+    let rest = sum_of_rows(alloc, fresh, rows, field, vector, letter, middle, to)?;
     sum.add_scaled(field, 1, &rest)?;
     Ok(sum)
 }
 
 /// The same, where rows are added one after another, in falling order of the ids.
 fn sum_in_order<R: Rows>(
-    alloc: Global,
+    mut sum: Sparse,
     rows: &R,
     field: &Field,
     vector: &Sparse,
@@ -73,7 +75,7 @@ fn sum_in_order<R: Rows>(
     requires within { to ≤ length vector.now }
     ensures { IfOk result (λ v. IsReducedOf ◌<◌ nat_eq field.now v (vector_times (R.rows rows.now) (part from to vector.now) letter)) }
 {
-    let mut sum = Sparse::zero(alloc);
+    sum.clear();
     for at in from..to {
         let term = vector.term(at);
         add_row(&mut sum, field, term.coef, row_at(rows, term.id, letter))?;
@@ -92,8 +94,8 @@ fn add_row(sum: &mut Sparse, field: &Field, by: u8, row: &Sparse) -> Result<(), 
         sum.add_scaled(field, by, row)?;
         return Ok(());
     }
-    for at in 0..row.len() {
-        sum.add_scaled_term(field, by, row.term(at))?;
+    for term in row.terms() {
+        sum.add_scaled_term(field, by, *term)?;
     }
     Ok(())
 }

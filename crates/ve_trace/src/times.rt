@@ -28,8 +28,16 @@ pub(crate) fn times_letters<R: Rows>(
         return start.copy();
     };
     let mut vector = times_letter(alloc, rows, field, start, *first)?;
+    let mut room = Sparse::zero(alloc);
     for letter in rest {
-        vector = times_letter(alloc, rows, field, &vector, *letter)?;
+        if vector.len() == 1 {
+            vector = times_letter(alloc, rows, field, &vector, *letter)?;
+            continue;
+        }
+        // Sums are made in the room of the vector before the last, in turns.
+        let next = sum_of_rows(alloc, room, rows, field, &vector, *letter, 0, vector.len())?;
+        room = vector;
+        vector = next;
     }
     Ok(vector)
 }
@@ -52,5 +60,6 @@ pub fn times_letter<R: Rows>(
         let term = vector.term(0);
         return multiple(field, term.coef, row_at(rows, term.id, letter));
     }
-    sum_of_rows(alloc, rows, field, vector, letter, 0, vector.len())
+    let room = Sparse::zero(alloc);
+    sum_of_rows(alloc, room, rows, field, vector, letter, 0, vector.len())
 }

@@ -4,7 +4,7 @@ use Rattle.ve_trace.proofs.sums.sum_in_order.Goals as goal
 
 pub loop-at-init : goal.loop-at-init
 loop-at-init g c =
-    sum_none _ (g.R.Rows.rows c.args.rows.now) c.args.vector.now _ c.args.letter c.args.from c.zero-sum.ensures.value (c.zero-sum.ensures.fits _)
+    sum_none _ (g.R.Rows.rows c.args.rows.now) c.args.vector.now _ c.args.letter c.args.from c.clear.ensures.value (c.clear.ensures.fits _)
 
 pub row_at-requires : goal.row_at-requires
 row_at-requires g c =
