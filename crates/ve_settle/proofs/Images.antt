@@ -1,5 +1,5 @@
 -- The row of a dead id at a letter, less its forward times the letter.
-use Rattle.std.proofs.Common.{◌≡◌, ◌≢◌, ℕ, suc, ◌+◌, ◌-◌, ◌*◌, ◌%◌, ◌<◌, ◌≤◌, nat_eq, Some, None, [], ◌++◌, length, All, refl, sym, ap, subst, ◌∙◌, arith, mod-eq_of_lt}
+use Rattle.std.proofs.Common.{◌≡◌, ◌≢◌, ℕ, suc, ◌+◌, ◌-◌, ◌*◌, ◌%◌, ◌<◌, ◌≤◌, nat_eq, Some, None, [], ◌++◌, length, All, refl, sym, ap, subst, ◌∙◌, arith}
 use Rattle.std.specs.Prelude.{Option, IsSome, unwrap_or}
 use mathlib.Core.Path.{fun_ext}
 use Rattle.std.proofs.lemmas.List.Elements.{All-append, All-weaker}
@@ -11,13 +11,13 @@ use Rattle.ve_theory.specs.Presentations.{reach}
 use Rattle.ve_theory.specs.Derivations.{DerivedWithin, Within}
 use Rattle.ve_theory.specs.Answers.{Row, IsRow}
 use Rattle.ve_theory.specs.Laws.{IsTotalOrder, ReachAddsUp}
-use Rattle.ve_theory.proofs.Sums.{weigh, weigh-append, weigh-scaled, weigh-unit, weigh-extended, weigh-difference, SameWeights, SameWeights-refl, SameWeights-sym, SameWeights-trans, SameWeights-append, SameWeights-scaled, SameWeights-difference, SameWeights-extended, SameWeights_of, scaled-one, extended-extended, extended-difference, differences-extended, differences-append, Alike_from_weights}
+use Rattle.ve_theory.proofs.Sums.{weigh, weigh-append, weigh-scaled, weigh-unit, weigh-extended, weigh-difference, SameWeights, SameWeights-refl, SameWeights-sym, SameWeights-trans, SameWeights-difference, SameWeights-extended, SameWeights_of, extended-extended, extended-difference, differences-extended, differences-append}
 use Rattle.ve_theory.proofs.Independence.{congruent_by}
 use Rattle.ve_theory.proofs.Products.{weigh-times_letter}
 use Rattle.ve_theory.proofs.Members.{All-scaled, All-times_letter}
 use Rattle.ve_theory.proofs.Remainders.{All-extended, All-unit, All-combination_of}
 use Rattle.ve_theory.proofs.DerivationTrees.{Within-words}
-use Rattle.ve_theory.proofs.DerivedElements.{SameWeights-equal, times_letter-append, times_letter-scaled, DerivedWithin-alike, DerivedWithin-times}
+use Rattle.ve_theory.proofs.DerivedElements.{times_letter-append, times_letter-scaled, DerivedWithin-alike, DerivedWithin-times}
 use Rattle.ve_vec.specs.Tracing.{row_or_zero, vector_times, HasProducts}
 use Rattle.ve_trace.proofs.Vectors.{vanishes_where_absent}
 use Rattle.ve_table.specs.Tables.{ActionTable, presented, word_at, row_at, element_of, on_words, IsDue}
@@ -28,16 +28,6 @@ use Rattle.ve_machine.proofs.ResolvedVectors.{derived_both, derived_sum}
 use Rattle.ve_settle.proofs.Derived.{DerivedWithin-scaled}
 use Rattle.ve_machine.proofs.Forwardings.{positive_prime}
 use Rattle.ve_settle.proofs.Order.{lower_reach}
-
--- a product is turned to its negative, and the row is added to it
-pub row_less : (p by : ℕ) (row sum product turned image : Row) → 1 < p → by ≡ (p - 1) % p → SameWeights p product sum
-    → SameWeights p turned (scaled by product) → SameWeights p image (turned ++ scaled 1 row) → SameWeights p image (difference p row sum)
-row_less p by row sum product turned image large by_is product_is turned_is image_is =
-    SameWeights-trans image_is
-    (SameWeights-trans (SameWeights-append (SameWeights-trans turned_is (SameWeights-scaled by product_is)) (scaled-one p row))
-    (SameWeights-equal (λ h.
-    let turns : by * weigh h sum ≡ (p - 1) * weigh h sum = ap (λ n. n * weigh h sum) (by_is ∙ mod-eq_of_lt (omega (arith, large))) in
-    weigh-append h (scaled by sum) row ∙ omega (arith, weigh-scaled h by sum, weigh-difference h p row sum, turns))))
 
 -- two sums less parts of one sum
 apart : (m u v w : ℕ) → Congruent (suc m) (u + m * w + m * (u + m * v)) (v + m * w)
@@ -149,22 +139,11 @@ module _ (T : ActionTable) (sound : IsSound T) (order : IsTotalOrder (presented 
   unfolding rows
   image_is = ap (λ r. difference (presented T).prime r (extended rows (stand_in T.forwards dead))) (row_or dead row row_is) ∙ ap (λ v. difference (presented T).prime row (extended rows v)) forward_is
 
-  -- the forward times the letter is turned to its negative, and the row is added to it
-  pub image_reduced : (by : ℕ) (product turned v : Row) → 1 < (presented T).prime → by ≡ ((presented T).prime - 1) % (presented T).prime
-      → IsReducedOf ◌<◌ nat_eq (presented T).prime product (vector_times (row_at T) forward x) → IsReducedOf ◌<◌ nat_eq (presented T).prime turned (scaled by product)
-      → IsReducedOf ◌<◌ nat_eq (presented T).prime v (turned ++ scaled 1 row)
+  -- the forward times the letter is taken from the row
+  pub image_reduced : (v : Row) → IsReducedOf ◌<◌ nat_eq (presented T).prime v (difference (presented T).prime row (vector_times (row_at T) forward x))
       → IsReducedOf ◌<◌ nat_eq (presented T).prime v (image_difference (presented T).prime (row_at T) T.forwards dead x)
   unfolding rows
-  image_reduced by product turned v large by_is product_is turned_is is = record {
-    reduced = is.reduced;
-    alike = Alike_from_weights nat_eq
-        (SameWeights-trans
-        (row_less (presented T).prime by row (vector_times (row_at T) forward x) product turned v large by_is
-        (reduced_same (presented T).prime product (vector_times (row_at T) forward x) product_is)
-        (reduced_same (presented T).prime turned (scaled by product) turned_is)
-        (reduced_same (presented T).prime v (turned ++ scaled 1 row) is))
-        (SameWeights_of (sym image_is)));
-  }
+  image_reduced v is = subst (IsReducedOf ◌<◌ nat_eq (presented T).prime v) (sym image_is) is
 
   pub image_derived : (v : Row) → IsReducedOf ◌<◌ nat_eq (presented T).prime v (image_difference (presented T).prime (row_at T) T.forwards dead x) → DerivedWithin (presented T) T.level (element_of T v)
   image_derived v is =
