@@ -14,4 +14,3 @@ pub mod DerivedProducts
 pub mod TracedProducts
 pub mod FoundProducts
 pub mod OwnRelations
-pub mod OverTables
