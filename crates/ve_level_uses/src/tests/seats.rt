@@ -22,6 +22,13 @@ struct Case {
 /// x^2 at e1, in the two-cycle.
 const SQUARE: Job = Job::Relator { id: 0, number: 0 };
 
+/// In the triangle: a^2 and b^2 at e1*b*a, and the image of e1*b*a*b*b, once it is dead, at a.
+const EARLY_A: Job = Job::Relator { id: 2, number: 0 };
+
+const EARLY_B: Job = Job::Relator { id: 2, number: 1 };
+
+const EARLY_IMAGE: Job = Job::Image { id: 5, letter: 0 };
+
 /// In the triangle: (a*b)^3 at e1, and b^2 and a^2 at e1*b*a*b*a.
 const FULL_TURN: Job = Job::Relator { id: 0, number: 2 };
 
@@ -40,6 +47,11 @@ const FIRST_TAKES_SQUARE: Event = Event::Take {
 const SECOND_TAKES_SQUARE: Event = Event::Take {
     seat: 1,
     job: SQUARE,
+};
+
+const FIRST_TAKES_A: Event = Event::Take {
+    seat: 0,
+    job: EARLY_A,
 };
 
 const FIRST_READS: Event = Event::Read { seat: 0 };
@@ -61,7 +73,7 @@ const SECOND_REPAIRS: Event = Event::Hand {
     what: Local::Repair,
 };
 
-const CASES: [Case; 4] = [
+const CASES: [Case; 5] = [
     // The job is taken once, and brought by the seat that has it alone.
     Case {
         text: TWO_CYCLE,
@@ -135,6 +147,92 @@ const CASES: [Case; 4] = [
             (Event::Rewrite { id: 1, letter: 0 }, false),
         ],
         row: (1, 0, 0),
+    },
+    // The ids are those of e1, e1*b, e1*b*a, e1*b*a*b, and of the last one times a and times b. The seats begin both jobs of the level. The first gives its job
+    // back and takes it anew; the second finds that e1*b*a*b*b is e1*b*a, and lets it die.
+    Case {
+        text: TRIANGLE_COSETS,
+        limit: 8,
+        level: 4,
+        events: &[
+            (FIRST_TAKES_A, true),
+            (
+                Event::Take {
+                    seat: 1,
+                    job: EARLY_A,
+                },
+                false,
+            ),
+            (
+                Event::Take {
+                    seat: 1,
+                    job: EARLY_B,
+                },
+                true,
+            ),
+            (FIRST_READS, true),
+            (SECOND_READS, true),
+            (FIRST_GOES_ON, true),
+            (SECOND_GOES_ON, true),
+            (Event::GiveBack { seat: 0 }, true),
+            (
+                Event::Take {
+                    seat: 0,
+                    job: EARLY_B,
+                },
+                false,
+            ),
+            (FIRST_TAKES_A, true),
+            (FIRST_GOES_ON, false),
+            (FIRST_READS, true),
+            (FIRST_GOES_ON, true),
+            (Event::Submit { seat: 0 }, false),
+            (SECOND_READS, true),
+            (SECOND_REPAIRS, false),
+            (SECOND_GOES_ON, true),
+            (SECOND_GOES_ON, true),
+            (SECOND_GOES_ON, true),
+            (Event::Submit { seat: 1 }, true),
+            (Event::Lift { seat: 1, place: 0 }, true),
+            (
+                Event::Take {
+                    seat: 1,
+                    job: EARLY_B,
+                },
+                false,
+            ),
+            (SECOND_READS, true),
+            (SECOND_REPAIRS, false),
+            (Event::Conclude { seat: 1 }, true),
+            (Event::Rewrite { id: 3, letter: 1 }, true),
+            (Event::Rewrite { id: 3, letter: 1 }, false),
+            (
+                Event::Take {
+                    seat: 1,
+                    job: EARLY_IMAGE,
+                },
+                false,
+            ),
+            (FIRST_READS, true),
+            (FIRST_GOES_ON, true),
+            (FIRST_GOES_ON, true),
+            (FIRST_GOES_ON, true),
+            (FIRST_GOES_ON, false),
+            (Event::Submit { seat: 0 }, true),
+            (Event::Lift { seat: 1, place: 0 }, true),
+            (Event::GiveBack { seat: 1 }, true),
+            (Event::Lift { seat: 0, place: 0 }, true),
+            (Event::Conclude { seat: 0 }, true),
+            (FIRST_TAKES_A, false),
+            (
+                Event::Take {
+                    seat: 1,
+                    job: EARLY_B,
+                },
+                false,
+            ),
+        ],
+        row: (3, 1, 2),
     },
     // The ids are those of e1, e1*b, e1*b*a, .. to e1*b*a*b*a*b, and of the last one times a and times b. While the second seat has reached
     // e1*b*a*b*a*b, the first one finds that this is e1, and lets it die.
