@@ -54,6 +54,11 @@ const FIRST_TAKES_A: Event = Event::Take {
     job: EARLY_A,
 };
 
+const SECOND_TAKES_B: Event = Event::Take {
+    seat: 1,
+    job: EARLY_B,
+};
+
 const FIRST_READS: Event = Event::Read { seat: 0 };
 
 const SECOND_READS: Event = Event::Read { seat: 1 };
@@ -163,13 +168,7 @@ const CASES: [Case; 5] = [
                 },
                 false,
             ),
-            (
-                Event::Take {
-                    seat: 1,
-                    job: EARLY_B,
-                },
-                true,
-            ),
+            (SECOND_TAKES_B, true),
             (FIRST_READS, true),
             (SECOND_READS, true),
             (FIRST_GOES_ON, true),
@@ -194,13 +193,7 @@ const CASES: [Case; 5] = [
             (SECOND_GOES_ON, true),
             (Event::Submit { seat: 1 }, true),
             (Event::Lift { seat: 1, place: 0 }, true),
-            (
-                Event::Take {
-                    seat: 1,
-                    job: EARLY_B,
-                },
-                false,
-            ),
+            (SECOND_TAKES_B, false),
             (SECOND_READS, true),
             (SECOND_REPAIRS, false),
             (Event::Conclude { seat: 1 }, true),
@@ -224,13 +217,7 @@ const CASES: [Case; 5] = [
             (Event::Lift { seat: 0, place: 0 }, true),
             (Event::Conclude { seat: 0 }, true),
             (FIRST_TAKES_A, false),
-            (
-                Event::Take {
-                    seat: 1,
-                    job: EARLY_B,
-                },
-                false,
-            ),
+            (SECOND_TAKES_B, false),
         ],
         row: (3, 1, 2),
     },
