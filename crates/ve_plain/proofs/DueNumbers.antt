@@ -10,7 +10,7 @@ use Rattle.ve_theory.specs.Presentations.{Presentation, due, reach, relator, rel
 use Rattle.ve_theory.specs.Words.{generator}
 use Rattle.ve_pres.specs.Drafts.{Draft}
 use Rattle.ve_table.specs.Tables.{ActionTable, presented, reach_at, word_at}
-use Rattle.ve_table.proofs.Birthing.{contains_filter, range_below}
+use Rattle.ve_lemmas.proofs.Lists.{Contains-filter, range_below}
 use Rattle.ve_plain.specs.Due.{due_numbers, is_due}
 use Rattle.ve_plain.specs.SameLevel.{IsSameLevel}
 
@@ -42,7 +42,7 @@ module _ (P : Presentation) (level r : ℕ) where
 
   pub every_due : (number : ℕ) → number < length (relators P) → r + relator_reach P (relator P number) ≡ level → Contains (due_numbers P level r) number
   every_due number within due =
-      contains_filter (is_due P level r) (range_with_len 0 (length (relators P))) number
+      Contains-filter (is_due P level r) (range_with_len 0 (length (relators P))) number
       (number, omega (arith, within, length-range_with_len 0 (length (relators P))), get_or-range_with_len 0 (length (relators P)) number number within ∙ omega arith)
       (eq-eqb (r + relator_reach P (relator P number)) level due)
 

@@ -1,15 +1,15 @@
 -- The products of one reach, letter weight by letter weight.
-use Rattle.std.proofs.Common.{◌≡◌, ℕ, zero, suc, ◌+◌, ◌-◌, ◌<◌, ◌≤◌, ◌⊎◌, inl, inr, Bool, true, false, cond, List, [], ◌∷◌, ◌++◌, length, get_or, refl, sym, ap, subst, ◌∙◌, arith, eqb-true, eq-eqb}
+use Rattle.std.proofs.Common.{◌≡◌, ℕ, zero, suc, ◌+◌, ◌-◌, ◌<◌, ◌≤◌, ◌⊎◌, inl, inr, List, [], ◌∷◌, ◌++◌, length, get_or, refl, sym, ap, subst, ◌∙◌, arith, eqb-true, eq-eqb}
 use Rattle.std.specs.Prelude.{All, AllPairs, Contains, filter, nat_eq, slice_index}
 use Rattle.std.specs.List.{range_with_len, AllWithin}
-use Rattle.std.proofs.lemmas.Bool.{cases_lt, cases_eq, cond-true}
+use Rattle.std.proofs.lemmas.Bool.{cases_lt, cases_eq}
 use Rattle.std.proofs.lemmas.Option.{slice_get-get_or}
 use Rattle.std.proofs.lemmas.List.{get_or_default, get_or_past, get_or-map, length-map}
 use Rattle.std.proofs.lemmas.List.FromFn.{get_or-range_with_len, length-range_with_len}
 use Rattle.std.proofs.lemmas.List.Elements.{All-nil, All-append, All-map, All-filter, All-contains, filter_passes, Contains-append_left, Contains-append_right}
 use Rattle.std.proofs.lemmas.List.Kept.{AllPairs-cons, AllPairs-filter}
 use Rattle.ve_theory.specs.Words.{Word, generator, times, word_weight, letter_weight, IsSmaller, Weighted}
-use Rattle.ve_lemmas.proofs.Lists.{Contains-here, Contains-later, Contains-cons}
+use Rattle.ve_lemmas.proofs.Lists.{Contains-filter, range_below}
 use Rattle.ve_lemmas.proofs.Weights.{weights_rise}
 use Rattle.ve_table.specs.declared.entry.Entry.{Entry}
 use Rattle.ve_table.specs.declared.birth.Birth.{Birth}
@@ -79,9 +79,6 @@ rising_book weights es book i j d lt within =
 
 -- letters of a weight
 
-pub range_below : (n : ℕ) → All (λ x. x < n) (range_with_len 0 n)
-range_below n k d lt = let in' : k < n = omega (arith, lt, length-range_with_len 0 n) in let e = get_or-range_with_len 0 n k d in' in omega (arith, e, in')
-
 range_rises : (n : ℕ) → AllPairs (λ x y. x < y) (range_with_len 0 n)
 range_rises n i j d lt within =
     let in' : j < n = omega (arith, within, length-range_with_len 0 n) in
@@ -97,21 +94,9 @@ letters_weigh weights weight k d lt =
     let is : get_or weights x 0 ≡ weight = eqb-true (get_or weights x 0) weight (filter_passes (λ x. nat_eq (slice_index weights x) weight) (range_with_len 0 (length weights)) k d lt) in
     (within, get_or_default weights x 1 0 within ∙ is)
 
-pub contains_filter : {X : Type 0} (p : X → Bool) (xs : List X) (x : X) → Contains xs x → p x ≡ true → Contains (filter p xs) x
-contains_filter p [] x found passes = absurd (omega (arith, found.1))
-contains_filter p (y ∷ ys) x found passes =
-    elim (Contains-cons y x ys found) [
-      | inl here ↦ subst (λ l. Contains l x) (sym (cond-true (p y) (y ∷ filter p ys) (filter p ys) (ap p here ∙ passes))) (subst (Contains (y ∷ filter p ys)) here (Contains-here y (filter p ys)))
-      | inr there ↦ kept (p y) (contains_filter p ys x there passes)
-    ]
-  where
-    kept : (b : Bool) → Contains (filter p ys) x → Contains (cond b (y ∷ filter p ys) (filter p ys)) x
-    kept true found = Contains-later y x (filter p ys) found
-    kept false found = found
-
 contains_letter : (weights : List ℕ) (weight x : ℕ) → x < length weights → letter_weight weights x ≡ weight → Contains (letters_weighing weights weight) x
 contains_letter weights weight x within is =
-    contains_filter (λ x. nat_eq (slice_index weights x) weight) (range_with_len 0 (length weights)) x
+    Contains-filter (λ x. nat_eq (slice_index weights x) weight) (range_with_len 0 (length weights)) x
     (x, omega (arith, within, length-range_with_len 0 (length weights)), get_or-range_with_len 0 (length weights) x x within ∙ omega arith)
     (eq-eqb (get_or weights x 0) weight (get_or_default weights x 0 1 within ∙ is))
 

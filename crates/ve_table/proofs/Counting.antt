@@ -9,11 +9,11 @@ use Rattle.std.proofs.lemmas.List.Elements.{All-head, All-tail, Contains-append_
 use Rattle.ve_theory.specs.Words.{Word}
 use Rattle.ve_theory.specs.Presentations.{Presentation, reach}
 use Rattle.ve_theory.specs.Levels.{steps_to}
-use Rattle.ve_lemmas.proofs.Lists.{Contains-here, Contains-later, Contains-cons}
+use Rattle.ve_lemmas.proofs.Lists.{Contains-here, Contains-later, Contains-cons, Contains-filter}
 use Rattle.ve_table.specs.declared.birth.Birth.{Birth}
 use Rattle.ve_table.specs.Births.{births_of}
 use Rattle.ve_table.proofs.Merging.{first_before, rest_rises}
-use Rattle.ve_table.proofs.Birthing.{contains_filter, contains_births_of}
+use Rattle.ve_table.proofs.Birthing.{contains_births_of}
 
 -- different elements of a list are no more than the list has
 
@@ -78,7 +78,7 @@ length_pairs P k b (w ∷ ws) =
 contains_reaching : (weights : List ℕ) (k r x : ℕ) → x < length weights → r + get_or weights x 0 ≡ k → Contains (letters_reaching weights k r) x
 unfolding letters_reaching
 contains_reaching weights k r x lt is =
-    contains_filter (λ x. nat_eq (r + get_or weights x 0) k) (range_with_len 0 (length weights)) x
+    Contains-filter (λ x. nat_eq (r + get_or weights x 0) k) (range_with_len 0 (length weights)) x
     (x, omega (arith, lt, length-range_with_len 0 (length weights)), get_or-range_with_len 0 (length weights) x x lt ∙ omega arith)
     (eq-eqb (r + get_or weights x 0) k is)
 
