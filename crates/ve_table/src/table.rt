@@ -2,7 +2,7 @@
 
 ghost use Rattle.std.specs.Prelude.{◌≡◌, ℕ, ◌+◌, ◌*◌, ◌<◌, ◌≤◌, ◌^◌, ◌↔◌, IsTrue, IsSome, Some, length, slice_get, count_by, nat_eq, sum_by, All};
 ghost use Rattle.ve_theory.specs.Words.{word_length};
-ghost use Rattle.ve_theory.specs.Presentations.{due, element_reach, reach, relator, relators, submodule_relation};
+ghost use Rattle.ve_theory.specs.Presentations.{due, element_reach, greatest_step, reach, relator, relators, submodule_relation};
 ghost use Rattle.ve_theory.specs.Answers.{Row};
 ghost use Rattle.ve_theory.specs.Validity.{most_letters};
 ghost use Rattle.ve_table.specs.Tables.{IsDue, IsId, presented, reach_at, row_at, word_at};
@@ -177,6 +177,7 @@ impl Table {
         requires { IsId self.now id }
         ensures bound { result ≤ id }
         ensures below { (b x : ℕ) (v : Row) → b < result → row_at self.now b x ≡ Some v → All (λ t. t.0 < id) v }
+        ensures near { (b : ℕ) → result ≤ b → IsId self.now b → reach_at self.now id ≤ reach_at self.now b + greatest_step (presented self.now) }
     {
         ve_theory::order::reaches_are_bounded();
         self.is_sound();
