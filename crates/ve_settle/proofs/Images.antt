@@ -1,5 +1,5 @@
 -- The row of a dead id at a letter, less its forward times the letter.
-use Rattle.std.proofs.Common.{◌≡◌, ◌≢◌, ℕ, suc, ◌+◌, ◌-◌, ◌*◌, ◌%◌, ◌<◌, ◌≤◌, nat_eq, Some, None, [], ◌++◌, length, All, refl, sym, ap, subst, ◌∙◌, arith}
+use Rattle.std.proofs.Common.{◌≡◌, ◌≢◌, ℕ, suc, ◌+◌, ◌-◌, ◌*◌, ◌%◌, ◌<◌, ◌≤◌, nat_eq, Some, None, [], ◌++◌, length, All, refl, sym, ap, subst, ◌∙◌, arith, mod-eq_of_lt}
 use Rattle.std.specs.Prelude.{Option, IsSome, unwrap_or}
 use mathlib.Core.Path.{fun_ext}
 use Rattle.std.proofs.lemmas.List.Elements.{All-append, All-weaker}
@@ -140,10 +140,14 @@ module _ (T : ActionTable) (sound : IsSound T) (order : IsTotalOrder (presented 
   image_is = ap (λ r. difference (presented T).prime r (extended rows (stand_in T.forwards dead))) (row_or dead row row_is) ∙ ap (λ v. difference (presented T).prime row (extended rows v)) forward_is
 
   -- the forward times the letter is taken from the row
-  pub image_reduced : (v : Row) → IsReducedOf ◌<◌ nat_eq (presented T).prime v (difference (presented T).prime row (vector_times (row_at T) forward x))
+  pub image_reduced : (by : ℕ) (v : Row) → by ≡ ((presented T).prime - 1) % (presented T).prime
+      → IsReducedOf ◌<◌ nat_eq (presented T).prime v (row ++ scaled by (vector_times (row_at T) forward x))
       → IsReducedOf ◌<◌ nat_eq (presented T).prime v (image_difference (presented T).prime (row_at T) T.forwards dead x)
   unfolding rows
-  image_reduced v is = subst (IsReducedOf ◌<◌ nat_eq (presented T).prime v) (sym image_is) is
+  image_reduced by v by_is is =
+      let negative : by ≡ (presented T).prime - 1 = by_is ∙ mod-eq_of_lt (omega (arith, positive_prime T sound)) in
+      subst (IsReducedOf ◌<◌ nat_eq (presented T).prime v) (sym image_is)
+      (subst (λ n. IsReducedOf ◌<◌ nat_eq (presented T).prime v (row ++ scaled n (vector_times (row_at T) forward x))) negative is)
 
   pub image_derived : (v : Row) → IsReducedOf ◌<◌ nat_eq (presented T).prime v (image_difference (presented T).prime (row_at T) T.forwards dead x) → DerivedWithin (presented T) T.level (element_of T v)
   image_derived v is =

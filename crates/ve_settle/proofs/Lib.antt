@@ -8,7 +8,6 @@ pub mod Substituting
 pub mod Order
 pub mod WordVectors
 pub mod Rewriting
-pub mod TakenProducts
 pub mod Images
 pub mod Resolving
 pub mod Clearing

@@ -1,5 +1,6 @@
 -- Sums of vectors, as they are added up.
-use Rattle.std.proofs.Common.{◌≡◌, ℕ, ◌+◌, ◌*◌, ◌<◌, nat_eq, List, [], ◌∷◌, ◌++◌, length, take, Some, get_or, slice_get, sym, ap, subst, ◌∙◌, arith}
+use Rattle.std.proofs.Common.{◌≡◌, ℕ, ◌+◌, ◌*◌, ◌%◌, ◌<◌, nat_eq, List, [], ◌∷◌, ◌++◌, length, take, Some, get_or, slice_get, refl, sym, ap, subst, ◌∙◌, arith}
+use Rattle.std.proofs.Math.Nat.{mod-mod}
 use Rattle.std.proofs.lemmas.List.{take_more, append-nil}
 use Rattle.std.proofs.lemmas.Option.{get_or_from_slice_get, slice_get-get_or, slice_get-map, slice_get_within}
 use Rattle.std.specs.Prelude.{option_map}
@@ -7,7 +8,7 @@ use Rattle.ve_theory.specs.Combinations.{Combination, scaled, IsReduced, IsReduc
 use Rattle.ve_vec.specs.declared.term.Term.{Term}
 use Rattle.ve_vec.specs.Terms.{pair_of, pairs}
 use Rattle.ve_theory.proofs.DerivedElements.{SameWeights-equal}
-use Rattle.ve_theory.proofs.Sums.{weigh-append, weigh-scaled, SameWeights, SameWeights-refl, SameWeights-sym, SameWeights-trans, SameWeights-append, SameWeights-scaled, scaled-one, Alike_from_weights, weights_from_Alike, Decides-nat_eq}
+use Rattle.ve_theory.proofs.Sums.{weigh, congruent-mul, weigh-append, weigh-scaled, SameWeights, SameWeights-refl, SameWeights-sym, SameWeights-trans, SameWeights-append, SameWeights-scaled, scaled-one, Alike_from_weights, weights_from_Alike, Decides-nat_eq}
 
 pub weights_of : {p : ℕ} {v e : Combination ℕ} → IsReducedOf ◌<◌ nat_eq p v e → SameWeights p v e
 weights_of {p} {v} {e} h = weights_from_Alike nat_eq Decides-nat_eq p v e h.alike
@@ -31,6 +32,15 @@ pub added_once : {p : ℕ} {s v e f r : Combination ℕ} → IsReducedOf ◌<◌
     → IsReducedOf ◌<◌ nat_eq p r (s ++ scaled 1 v) → IsReducedOf ◌<◌ nat_eq p r (e ++ f)
 added_once {p} {s} {v} {e} {f} {r} sum vector result =
     onto (added 1 sum vector result) (SameWeights-append (SameWeights-refl p e) (scaled-one p f))
+
+-- a multiple of a multiple
+pub scaled_twice : (p by c e : ℕ) (v : Combination ℕ) → e ≡ (c * by) % p → SameWeights p (scaled e v) (scaled by (scaled c v))
+scaled_twice p by c e v e_is = record {
+  at = λ h.
+      ap (λ n. n % p) (weigh-scaled h e v)
+      ∙ congruent-mul p e (c * by) (weigh h v) (weigh h v) (ap (λ n. n % p) e_is ∙ mod-mod (c * by) p) refl
+      ∙ ap (λ n. n % p) (omega (arith, weigh-scaled h by (scaled c v), ap (λ n. by * n) (weigh-scaled h c v)));
+}
 
 -- once the vector is itself
 pub once : {p : ℕ} {v : Combination ℕ} → IsReduced ◌<◌ p v → IsReducedOf ◌<◌ nat_eq p v (scaled 1 v)

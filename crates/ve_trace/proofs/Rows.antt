@@ -1,14 +1,14 @@
 -- The rows that a vector's ids have at a letter, and their sums.
-use Rattle.std.proofs.Common.{◌≡◌, ◌≢◌, ℕ, ◌+◌, ◌-◌, ◌<◌, ◌≤◌, nat_eq, [], ◌∷◌, ◌++◌, length, take, drop, get_or, Option, Some, None, slice_get, slice_index_or, unwrap_or, sym, ap, ◌∙◌, subst, length-drop, arith}
+use Rattle.std.proofs.Common.{◌≡◌, ◌≢◌, ℕ, ◌+◌, ◌-◌, ◌*◌, ◌%◌, ◌<◌, ◌≤◌, nat_eq, [], ◌∷◌, ◌++◌, length, take, drop, get_or, Option, Some, None, slice_get, slice_index_or, unwrap_or, sym, ap, ◌∙◌, subst, length-drop, arith}
 use Rattle.std.proofs.Math.Seq.{take-add, take-length}
 use Rattle.std.proofs.lemmas.List.{take_more, get_or-drop, drop-drop, append-nil}
 use Rattle.std.proofs.lemmas.Option.{get_or_from_slice_get, slice_get-get_or, slice_get_within}
 use Rattle.ve_theory.specs.Combinations.{Combination, scaled, extended, IsReduced, IsReducedOf}
-use Rattle.ve_theory.proofs.Sums.{extended-append}
+use Rattle.ve_theory.proofs.Sums.{extended-append, SameWeights-refl, SameWeights-trans, SameWeights-append, SameWeights_of}
 use Rattle.ve_vec.specs.Tracing.{PartialTable, row_or_zero, vector_times, AreReduced, HasProducts}
 use Rattle.ve_trace.specs.Parts.{HasRows, part}
 use Rattle.ve_trace.proofs.Vectors.{term_at, term_counts}
-use Rattle.ve_trace.proofs.Adding.{added, added_once, itself}
+use Rattle.ve_trace.proofs.Adding.{added, added_once, itself, onto, scaled_twice}
 
 -- parts of vectors
 
@@ -92,13 +92,23 @@ sum_whole p rows v r x n all sum =
     let count : n - 0 ≡ length v = omega arith in
     subst P (ap (λ m. take m v) count ∙ take-length v) sum
 
+-- a vector of one term
+pub one_product : (rows : PartialTable) (v row : Combination ℕ) (x b c : ℕ) → length v ≡ 1 → slice_get v 0 ≡ Some (b, c) → rows b x ≡ Some row → vector_times rows v x ≡ scaled c row
+unfolding extended
+one_product rows [] row x b c one is known = absurd cc
+one_product rows (t ∷ s ∷ v) row x b c one is known = absurd (omega arith)
+one_product rows (t ∷ []) row x b c one is known =
+    let first : t ≡ (b, c) = cc in
+    ap (λ s. vector_times rows (s ∷ []) x) first ∙ one_more rows [] row x b c known
+
 pub sum_one : (p : ℕ) (rows : PartialTable) (v row r : Combination ℕ) (x b c : ℕ) → length v ≡ 1 → slice_get v 0 ≡ Some (b, c) → rows b x ≡ Some row
     → IsReducedOf ◌<◌ nat_eq p r (scaled c row) → IsReducedOf ◌<◌ nat_eq p r (vector_times rows v x)
-unfolding extended
-sum_one p rows [] row r x b c one is known result = absurd cc
-sum_one p rows (t ∷ s ∷ v) row r x b c one is known result = absurd (omega arith)
-sum_one p rows (t ∷ []) row r x b c one is known result =
-    let first : t ≡ (b, c) = cc in
-    let shown : vector_times rows (t ∷ []) x ≡ scaled c row = ap (λ s. vector_times rows (s ∷ []) x) first ∙ one_more rows [] row x b c known in
-    let P : Combination ℕ → Type 0 = λ w. IsReducedOf ◌<◌ nat_eq p r w in
-    subst P (sym shown) result
+sum_one p rows v row r x b c one is known result = subst (IsReducedOf ◌<◌ nat_eq p r) (sym (one_product rows v row x b c one is known)) result
+
+-- a multiple of it is added as a multiple of its row
+pub one_added : (p by e : ℕ) (rows : PartialTable) (s v row r : Combination ℕ) (x b c : ℕ) → length v ≡ 1 → slice_get v 0 ≡ Some (b, c) → rows b x ≡ Some row
+    → e ≡ (c * by) % p → IsReducedOf ◌<◌ nat_eq p r (s ++ scaled e row) → IsReducedOf ◌<◌ nat_eq p r (s ++ scaled by (vector_times rows v x))
+one_added p by e rows s v row r x b c one is known e_is result =
+    onto result
+    (SameWeights-append (SameWeights-refl p s)
+    (SameWeights-trans (scaled_twice p by c e row e_is) (SameWeights_of (ap (scaled by) (sym (one_product rows v row x b c one is known))))))

@@ -10,5 +10,5 @@ mod times;
 mod trace;
 mod walk;
 
-pub use times::times_letter;
+pub use times::{add_times_letter, times_letter};
 pub use trace::{trace_relator, trace_sub, trace_word};

@@ -1,10 +1,10 @@
 //! A vector times letters.
 
-ghost use Rattle.std.specs.Prelude.{◌<◌, IfOk, nat_eq};
-ghost use Rattle.ve_theory.specs.Combinations.{IsReduced, IsReducedOf};
+ghost use Rattle.std.specs.Prelude.{◌<◌, ◌++◌, IfOk, OnOk, nat_eq};
+ghost use Rattle.ve_theory.specs.Combinations.{IsReduced, IsReducedOf, scaled};
 ghost use Rattle.ve_vec.specs.Tracing.{AreReduced, CanTrace, HasProducts, vector_times, vector_times_letters};
 
-use crate::multiples::multiple;
+use crate::multiples::{add_moved, multiple};
 use crate::sums::{row_at, sum_of_rows};
 use std::alloc::Global;
 use ve_field::Field;
@@ -62,4 +62,36 @@ pub fn times_letter<R: Rows>(
     }
     let room = Sparse::zero(alloc);
     sum_of_rows(alloc, room, rows, field, vector, letter, 0, vector.len())
+}
+
+/// Adds a multiple of a vector times a letter.
+pub fn add_times_letter<R: Rows>(
+    sum: &mut Sparse,
+    alloc: Global,
+    rows: &R,
+    field: &Field,
+    by: u8,
+    vector: &Sparse,
+    letter: u8,
+) -> Result<(), Memory>
+    requires sum { IsReduced ◌<◌ field.now sum.old }
+    requires rows { AreReduced field.now (R.rows rows.now) }
+    requires residue { by < field.now }
+    requires vector { IsReduced ◌<◌ field.now vector.now }
+    requires found { HasProducts field.now (R.rows rows.now) vector.now letter }
+    ensures { OnOk result (IsReducedOf ◌<◌ nat_eq field.now sum.new (sum.old ++ scaled by (vector_times (R.rows rows.now) vector.now letter))) }
+{
+    // The common case adds a multiple of a row, and makes no product first.
+    if vector.len() == 1 {
+        let term = vector.term(0);
+        sum.add_scaled(
+            field,
+            field.mul(term.coef, by),
+            row_at(rows, term.id, letter),
+        )?;
+        return Ok(());
+    }
+    let product = times_letter(alloc, rows, field, vector, letter)?;
+    add_moved(sum, field, by, product)?;
+    Ok(())
 }
