@@ -193,7 +193,7 @@ impl Sparse {
         }
         let mut sum = SmallVec::new(self.terms.allocator());
         append_sum(&mut sum, field, by, self.terms.as_slice(), others)?;
-        self.terms = Terms::from_list(sum)?;
+        self.terms.replace(sum)?;
         Ok(())
     }
 
@@ -230,7 +230,7 @@ impl Sparse {
         let mut sum = SmallVec::new(self.terms.allocator());
         append_sum(&mut sum, field, coef, above, higher)?;
         append_sum(&mut sum, field, coef, below, lower)?;
-        self.terms = Terms::from_list(sum)?;
+        self.terms.replace(sum)?;
         Ok(())
     }
 

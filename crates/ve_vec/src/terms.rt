@@ -88,6 +88,15 @@ impl Terms {
         Ok(Terms { alloc, held })
     }
 
+    /// Puts the terms of a list in the place of these.
+    pub(crate) fn replace(&mut self, list: SmallVec<Term, 4>) -> Result<(), Memory>
+        ensures ok { OnOk result (self.new ≡ list.items) }
+        ensures err { OnErr result (self.new ≡ self.old) }
+    {
+        *self = Terms::from_list(list)?;
+        Ok(())
+    }
+
     pub(crate) fn allocator(&self) -> Global {
         self.alloc
     }
@@ -119,16 +128,24 @@ impl Terms {
         ensures err { OnErr result (self.new ≡ self.old) }
     {
         match &mut self.held {
-            Held::Few(few) if few.is_full() => {
-                let mut list = SmallVec::from_slice(self.alloc, few.as_slice())?;
-                list.insert(at, term)?;
-                self.held = Held::Many(Box::new(self.alloc, list)?);
+            Held::Few(few) if few.is_full() => self.insert_anew(at, term),
+            Held::Few(few) => {
+                few.insert(at, term);
+                Ok(())
             }
-            Held::Few(few) => few.insert(at, term),
-            Held::Many(list) if at == list.len() => list.push(term)?,
-            Held::Many(list) => list.insert(at, term)?,
+            Held::Many(list) => insert_in_list(list, at, term),
         }
-        Ok(())
+    }
+
+    /// Puts a term in before the one at `at`, and all terms in a new list.
+    fn insert_anew(&mut self, at: usize, term: Term) -> Result<(), Memory>
+        requires { at ≤ length self.old }
+        ensures ok { OnOk result (self.new ≡ insert self.old at term) }
+        ensures err { OnErr result (self.new ≡ self.old) }
+    {
+        let mut list = SmallVec::from_slice(self.alloc, self.as_slice())?;
+        list.insert(at, term)?;
+        self.replace(list)
     }
 
     /// Takes the term at `at` away.
@@ -168,14 +185,22 @@ impl Terms {
         ensures err { OnErr result (self.new ≡ self.old) }
     {
         match &mut self.held {
-            Held::Few(few) => {
-                let mut list = SmallVec::from_slice(self.alloc, few.as_slice())?;
-                append_scaled(&mut list, field, by, others)?;
-                *self = Terms::from_list(list)?;
-            }
-            Held::Many(list) => append_scaled(list, field, by, others)?,
+            Held::Few(_) => self.append_scaled_anew(field, by, others),
+            Held::Many(list) => append_scaled(list, field, by, others),
         }
-        Ok(())
+    }
+
+    /// Appends `by` times other terms, whose ids are below these, and puts all terms in a new list.
+    fn append_scaled_anew(&mut self, field: &Field, by: u8, others: &[Term]) -> Result<(), Memory>
+        requires terms { IsReduced ◌<◌ field.now (pairs self.old ++ pairs others.now) }
+        requires nonzero { 0 < by }
+        requires residue { by < field.now }
+        ensures ok { OnOk result (IsReducedOf ◌<◌ nat_eq field.now (pairs self.new) (pairs self.old ++ scaled by (pairs others.now))) }
+        ensures err { OnErr result (self.new ≡ self.old) }
+    {
+        let mut list = SmallVec::from_slice(self.alloc, self.as_slice())?;
+        append_scaled(&mut list, field, by, others)?;
+        self.replace(list)
     }
 
     /// Multiplies each coefficient by `by`.
@@ -202,4 +227,18 @@ impl Terms {
             Held::Many(list) => number_terms(list.as_mut_slice(), numbers),
         }
     }
+}
+
+/// Puts a term in before the one at `at`.
+fn insert_in_list(list: &mut SmallVec<Term, 4>, at: usize, term: Term) -> Result<(), Memory>
+    requires { at ≤ length list.old.items }
+    ensures ok { OnOk result (list.new.items ≡ insert list.old.items at term) }
+    ensures err { OnErr result (list.new ≡ list.old) }
+{
+    if at == list.len() {
+        list.push(term)?;
+    } else {
+        list.insert(at, term)?;
+    }
+    Ok(())
 }

@@ -25,7 +25,7 @@ returns-then-comes_before-clause-ids c = λ among.
 pub returns-clause-ids : goal.returns-clause-ids
 returns-clause-ids c = λ among.
     ids_of_sum c.args.field.now c.args.by among c.args.self.now c.args.other.now _
-    (rw c.in_ok-self-inside.ensures
+    (rw c.in_ok-replace.ensures.ok
     (rw (c.new-sum.ensures.items, c.as_slice-2.ensures, c.as_slice-others.ensures, c.other.view_is, c.self.view_is) at c.in_ok-append_sum.ensures.ok))
 
 pub mul-requires-clause-second : goal.mul-requires-clause-second

@@ -44,7 +44,7 @@ append_sum-requires-2-clause-residue c =
 
 pub returns-clause-ok : goal.returns-clause-ok
 returns-clause-ok c =
-    rw c.in_ok-self-inside.ensures
+    rw c.in_ok-replace.ensures.ok
     (replaced _ _ _ _ _ _ c.in-Some.ensures.above c.split_at_id.ensures.above (rw c.new-sum.ensures.items at c.in_ok-append_sum.ensures.ok) _ _ _ _ _
     (parts_of c.self.view_is c.as_slice.ensures c.in-Some.ensures.whole) (halves_of c.split_at_id.result.0.now c.split_at_id.result.1.now c.by.view_is c.as_slice-2.ensures c.split_at_id.ensures.whole)
     c.requires.fits c.in_ok-append_sum-2.ensures.ok)
