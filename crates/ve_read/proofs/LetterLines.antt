@@ -1,5 +1,6 @@
 -- Lines that declare letters.
-use Rattle.std.proofs.Common.{◌≡◌, inr, [], ◌∷◌, length, Some, None, Ok, Err, sym, ap, ◌∙◌, subst, ◌+◌}
+use Rattle.std.proofs.Common.{◌≡◌, ℕ, inr, [], ◌∷◌, length, Some, None, Result, Ok, Err, sym, ap, ◌∙◌, subst, ◌+◌}
+use Rattle.std.specs.Prelude.{MatchResult}
 use Rattle.ve_theory.specs.Presentations.{Presentation}
 use Rattle.ve_theory.specs.Validity.{IsValid}
 use Rattle.ve_formats.specs.PresentationLines as lines
@@ -11,7 +12,7 @@ use Rattle.ve_read.specs.declared.building.Stage.TheVariants.{Letters}
 use Rattle.ve_read.specs.declared.draft.Draft.TheVariants.{Built}
 use Rattle.ve_read.specs.declared.why.Why.{Why}
 use Rattle.ve_read.specs.Refusals.{Tells}
-use Rattle.ve_read.specs.Drafts.{IsBuilding, IsOpenAt, IsTaken, IsNotTaken, built_of, stage_of}
+use Rattle.ve_read.specs.Drafts.{IsBuilding, IsOpenAt, IsTaken, IsNotTaken, Judges, built_of, stage_of}
 use Rattle.ve_read.proofs.Told.{tells_more}
 use Rattle.ve_read.proofs.Letters.{with_letter_is, with_pair_is}
 
@@ -26,6 +27,12 @@ module _ (draft : Draft) (x : lines.Declared) (at : draft.stage ≡ among_letter
 
   pub first_refused : (y : lines.Declared) → MayWeigh draft y → IsNotTaken draft (pair x y) why
   first_refused y other = inr ((at, may, other), tells_more _ (λ cause. Works draft (pair x y) (Err cause)) why (refuses_first x y) told)
+
+-- the first letter of a pair
+pub judged_first : (draft : Draft) (x y : lines.Declared) → draft.stage ≡ among_letters → MayWeigh draft x → MayWeigh draft y → (result : Result ℕ Why) → Judges draft.presentation x result
+    → MatchResult result (λ weight. (weight ≡ weight_of x) × Declares draft.presentation x None × MayWeigh draft x × MayWeigh draft y) (IsNotTaken draft (pair x y))
+judged_first draft x y at may other (Ok weight) h = (h.0, h.1, may, other)
+judged_first draft x y at may other (Err why) h = first_refused draft x at may why h y other
 
 pub second_refused : (draft : Draft) (x y : lines.Declared) → draft.stage ≡ among_letters → MayWeigh draft x → MayWeigh draft y → Declares draft.presentation x None
     → (why : Why) → Tells (λ cause. Declares (with_first draft.presentation x) y (Some cause)) why → IsNotTaken draft (pair x y) why

@@ -10,7 +10,6 @@ use Rattle.ve_formats.specs.PresentationLines as lines
 use Rattle.ve_formats.specs.PresentationLines.{Draft, Line, SpellLine, MayStand, Works}
 use Rattle.ve_formats.specs.PresentationText.{Refuses, IsTooDeep, tokens_of, taken, faulty_behind_end, faulty, deep, formless, meaningless}
 use Rattle.ve_lex.specs.declared.token.Placed.{Placed}
-use Rattle.ve_lex.specs.declared.token.Token as lexed
 use Rattle.ve_lex.specs.declared.token.LexFault.{LexFault}
 use Rattle.ve_lex.specs.declared.token.LexFault.TheVariants.{BadByte, LongNumber, Memory}
 use Rattle.ve_lex.specs.Lexed.{token_of, placed_of, HasItsValue, IsFaultOf}

@@ -1,12 +1,12 @@
 //! A presentation that is read, from the line of the prime on.
 
-ghost use Rattle.std.specs.Prelude.{◌≡◌, ◌≢◌, ◌↔◌, ◌+◌, ◌<◌, ◌≤◌, ◌⊎◌, IsTrue, MatchOption, MatchResult, Some, slice_get};
+ghost use Rattle.std.specs.Prelude.{◌≡◌, ◌≢◌, ◌↔◌, ◌+◌, ◌<◌, ◌≤◌, ◌⊎◌, IsTrue, MatchOption, MatchResult, None, Some, slice_get};
 ghost use Rattle.ve_theory.specs.Presentations.{most_weight};
 ghost use Rattle.ve_theory.specs.Validity.{IsValid};
 ghost use Rattle.ve_formats.specs.Expressions.{Expression};
 ghost use Rattle.ve_formats.specs.ModuleExpressions.{ModuleExpression};
 ghost use Rattle.ve_formats.specs.PresentationLines as lines;
-ghost use Rattle.ve_formats.specs.PresentationLines.{IsAmongRelations, MayWeigh};
+ghost use Rattle.ve_formats.specs.PresentationLines.{Declares, IsAmongRelations, Line, MayWeigh};
 ghost use Rattle.ve_pres.specs.Drafts.{IsOpen, with_weight};
 ghost use Rattle.ve_read.specs.Forms.{AreModuleTokensOf, AreTokensOf, IsNamed, declared_of};
 ghost use Rattle.ve_read.specs.Drafts.{Starts, WeighsAs};
@@ -46,7 +46,7 @@ pub(crate) struct Building {
 }
 
 impl Building {
-    ghost use Rattle.ve_read.specs.Drafts.{IsBuilding, Judges, Takes, built_of, stage_of, versioned};
+    ghost use Rattle.ve_read.specs.Drafts.{IsBuilding, IsNotTaken, IsTaken, Judges, Takes, built_of, stage_of, versioned};
 
     /// A presentation over the field of a prime, with nothing in it.
     pub(crate) fn start(alloc: Global, has_weights: bool, prime: u64) -> Result<Building, Why>
@@ -115,6 +115,14 @@ impl Building {
         self.at(Stage::End)
     }
 
+    // The draft behind a line that was taken, or why it was not.
+    fn after(self, done: Result<(), Why>) -> Result<Draft, Why>
+        ensures { (draft : lines.Draft) (line : Line) → MatchResult done (λ _. IsTaken draft line (Draft.Built self)) (IsNotTaken draft line) → Takes draft line result }
+    {
+        done?;
+        Ok(Draft::Built(self))
+    }
+
     // Whether a weight is written only where it may be.
     fn check_weight(&self, letter: &Declared) -> Result<(), Why>
         ensures place { MatchResult result (λ _. MayWeigh (built_of self.now) (declared_of letter.now))
@@ -146,11 +154,23 @@ impl Building {
         requires named { IsNamed letter }
         ensures { Takes (built_of self) (lines.letter (declared_of letter.entry)) result }
     {
-        self.check_weight(&letter)?;
+        let done = self.declare_letter(&letter);
+        self.after(done)
+    }
+
+    // Declares a letter without inverse.
+    fn declare_letter(&mut self, letter: &Declared) -> Result<(), Why>
+        requires stage { self.old.stage ≡ Stage.Letters }
+        requires kept { IsBuilding self.old }
+        requires named { IsNamed letter.now }
+        ensures { MatchResult result (λ _. IsTaken (built_of self.old) (lines.letter (declared_of letter.now)) (Draft.Built self.new))
+            (IsNotTaken (built_of self.old) (lines.letter (declared_of letter.now))) }
+    {
+        self.check_weight(letter)?;
         let number = self.presentation.add_letter(text_of(letter.name))?;
-        let weight = weight_of(&letter)?;
+        let weight = weight_of(letter)?;
         weigh(&mut self.presentation, number, weight);
-        Ok(Draft::Built(self))
+        Ok(())
     }
 
     /// A letter that is its own inverse.
@@ -160,11 +180,23 @@ impl Building {
         requires named { IsNamed letter }
         ensures { Takes (built_of self) (lines.involution (declared_of letter.entry)) result }
     {
-        self.check_weight(&letter)?;
+        let done = self.declare_involution(&letter);
+        self.after(done)
+    }
+
+    // Declares a letter that is its own inverse.
+    fn declare_involution(&mut self, letter: &Declared) -> Result<(), Why>
+        requires stage { self.old.stage ≡ Stage.Letters }
+        requires kept { IsBuilding self.old }
+        requires named { IsNamed letter.now }
+        ensures { MatchResult result (λ _. IsTaken (built_of self.old) (lines.involution (declared_of letter.now)) (Draft.Built self.new))
+            (IsNotTaken (built_of self.old) (lines.involution (declared_of letter.now))) }
+    {
+        self.check_weight(letter)?;
         let number = self.presentation.add_involution(text_of(letter.name))?;
-        let weight = weight_of(&letter)?;
+        let weight = weight_of(letter)?;
         weigh(&mut self.presentation, number, weight);
-        Ok(Draft::Built(self))
+        Ok(())
     }
 
     /// A letter and its inverse. The first is judged whole before the second.
@@ -175,15 +207,42 @@ impl Building {
         requires inverse_named { IsNamed inverse }
         ensures { Takes (built_of self) (lines.pair (declared_of letter.entry) (declared_of inverse.entry)) result }
     {
-        self.check_weight(&letter)?;
-        self.check_weight(&inverse)?;
-        let weight = self.judge(&letter)?;
+        let done = self.declare_pair(&letter, &inverse);
+        self.after(done)
+    }
+
+    // Declares a letter and its inverse.
+    fn declare_pair(&mut self, letter: &Declared, inverse: &Declared) -> Result<(), Why>
+        requires stage { self.old.stage ≡ Stage.Letters }
+        requires kept { IsBuilding self.old }
+        requires named { IsNamed letter.now }
+        requires inverse_named { IsNamed inverse.now }
+        ensures { MatchResult result
+            (λ _. IsTaken (built_of self.old) (lines.pair (declared_of letter.now) (declared_of inverse.now)) (Draft.Built self.new))
+            (IsNotTaken (built_of self.old) (lines.pair (declared_of letter.now) (declared_of inverse.now))) }
+    {
+        let weight = self.judge_first(letter, inverse)?;
         let name = text_of(letter.name);
         let number = self.presentation.add_pair(name, text_of(inverse.name))?;
-        let inverse_weight = weight_of(&inverse)?;
+        let inverse_weight = weight_of(inverse)?;
         weigh(&mut self.presentation, number, weight);
         weigh(&mut self.presentation, number + 1, inverse_weight);
-        Ok(Draft::Built(self))
+        Ok(())
+    }
+
+    // The weight of the first letter of a pair, where it may be declared and both may have their weights.
+    fn judge_first(&self, letter: &Declared, inverse: &Declared) -> Result<u8, Why>
+        requires stage { self.now.stage ≡ Stage.Letters }
+        requires named { IsNamed letter.now }
+        ensures judged { MatchResult result
+            (λ weight. (weight ≡ lines.weight_of (declared_of letter.now)) × Declares self.now.presentation.presentation (declared_of letter.now) None
+            × MayWeigh (built_of self.now) (declared_of letter.now) × MayWeigh (built_of self.now) (declared_of inverse.now))
+            (IsNotTaken (built_of self.now) (lines.pair (declared_of letter.now) (declared_of inverse.now))) }
+        ensures valid { IsValid self.now.presentation.presentation }
+    {
+        self.check_weight(letter)?;
+        self.check_weight(inverse)?;
+        self.judge(letter)
     }
 
     /// The number of generators.
@@ -225,6 +284,19 @@ impl Building {
         requires right { (e : Expression) × AreTokensOf right.now e }
         ensures { (d e : Expression) → AreTokensOf left.now d → AreTokensOf right.now e → Takes (built_of self) (lines.relation d e) result }
     {
+        let done = self.keep_relation(alloc, left, right);
+        self.after(done)
+    }
+
+    // Keeps a relation.
+    fn keep_relation(&mut self, alloc: Global, left: &[Placed], right: &[Placed]) -> Result<(), Why>
+        requires stage { IsAmongRelations (stage_of self.old.stage) }
+        requires kept { IsBuilding self.old }
+        requires left { (d : Expression) × AreTokensOf left.now d }
+        requires right { (e : Expression) × AreTokensOf right.now e }
+        ensures { (d e : Expression) → AreTokensOf left.now d → AreTokensOf right.now e
+            → MatchResult result (λ _. IsTaken (built_of self.old) (lines.relation d e) (Draft.Built self.new)) (IsNotTaken (built_of self.old) (lines.relation d e)) }
+    {
         if self.counted >= MOST_RELATIONS {
             return Err(Why::Limit(Limit::Relations));
         }
@@ -232,7 +304,8 @@ impl Building {
         values_are_elements();
         let relation = difference_of(alloc, &self.presentation, left, right)?;
         self.presentation.add_relation(relation)?;
-        Ok(Draft::Built(self.counted()))
+        self.count();
+        Ok(())
     }
 
     /// A submodule relation.
@@ -249,6 +322,24 @@ impl Building {
         ensures { (d e : ModuleExpression) → AreModuleTokensOf left.now d → AreModuleTokensOf right.now e
             → Takes (built_of self) (lines.submodule d e) result }
     {
+        let done = self.keep_submodule(alloc, left, right);
+        self.after(done)
+    }
+
+    // Keeps a submodule relation.
+    fn keep_submodule(
+        &mut self,
+        alloc: Global,
+        left: &[Placed],
+        right: &[Placed],
+    ) -> Result<(), Why>
+        requires stage { IsAmongRelations (stage_of self.old.stage) }
+        requires kept { IsBuilding self.old }
+        requires left { (d : ModuleExpression) × AreModuleTokensOf left.now d }
+        requires right { (e : ModuleExpression) × AreModuleTokensOf right.now e }
+        ensures { (d e : ModuleExpression) → AreModuleTokensOf left.now d → AreModuleTokensOf right.now e
+            → MatchResult result (λ _. IsTaken (built_of self.old) (lines.submodule d e) (Draft.Built self.new)) (IsNotTaken (built_of self.old) (lines.submodule d e)) }
+    {
         if self.counted >= MOST_RELATIONS {
             return Err(Why::Limit(Limit::Relations));
         }
@@ -256,19 +347,17 @@ impl Building {
         values_are_elements();
         let relation = module_difference_of(alloc, &self.presentation, left, right)?;
         self.presentation.add_sub(relation)?;
-        Ok(Draft::Built(self.counted()))
+        self.count();
+        Ok(())
     }
 
-    // One relation more was counted.
-    fn counted(self) -> Building
-        requires { self.counted < 4096 }
-        ensures { result ≡ record { stage = Stage.Relations; presentation = self.presentation; counted = self.counted + 1 } }
+    // Counts one relation more.
+    fn count(&mut self)
+        requires { self.old.counted < 4096 }
+        ensures { self.new ≡ record { stage = Stage.Relations; presentation = self.old.presentation; counted = self.old.counted + 1 } }
     {
-        Building {
-            stage: Stage::Relations,
-            presentation: self.presentation,
-            counted: self.counted + 1,
-        }
+        self.stage = Stage::Relations;
+        self.counted += 1;
     }
 }
 

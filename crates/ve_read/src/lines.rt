@@ -1,16 +1,18 @@
 //! Texts, line by line.
 
-ghost use Rattle.std.specs.Prelude.{◌≡◌, ◌≢◌, ◌↔◌, ℕ, ◌+◌, [], List, IsTrue, MatchResult, map};
+ghost use Rattle.std.specs.Prelude.{◌≡◌, ◌≢◌, ◌↔◌, ℕ, ◌+◌, List, IfOk, IfSome, IsTrue, MatchOption, MatchResult, Result, map};
 ghost use Rattle.ve_formats.specs.PresentationLines as lines;
-ghost use Rattle.ve_formats.specs.PresentationText.{IsRefusedAt, IsTooDeep, Refuses, Spells, is_sign};
+ghost use Rattle.ve_formats.specs.PresentationLines.{Line};
+ghost use Rattle.ve_formats.specs.PresentationText.{Accepts, IsRefusedAt, IsTooDeep, Refuses, Spells, is_sign};
 ghost use Rattle.ve_formats.specs.Tokens.{Lexes};
 ghost use Rattle.ve_lex.specs.Lexed.{IsFaultOf, placed_of, token_of};
 ghost use Rattle.ve_value.specs.Shapes.{AreWritten, tokens_in};
-ghost use Rattle.ve_read.specs.Drafts.{IsKept, TakesLine, draft_of};
+ghost use Rattle.ve_read.specs.Forms.{IsFormOf};
+ghost use Rattle.ve_read.specs.Drafts.{IsKept, Takes, TakesLine, draft_of};
 ghost use Rattle.ve_read.specs.Refusals.{Tells};
 
 use crate::draft::Draft;
-use crate::form::form_of;
+use crate::form::{Form, form_of};
 use crate::{ReadRefusal, Why};
 use std::alloc::Global;
 use ve_lex::{LexFault, Placed, Token, next_line, tokens};
@@ -49,18 +51,10 @@ fn take_line(alloc: Global, draft: Draft, line: &[u8]) -> Result<Draft, Why>
     requires { IsKept draft }
     ensures { TakesLine (draft_of draft) line.now result }
 {
-    let ended = draft.is_ended();
-    let tokens = match tokens(alloc, line) {
-        Ok(tokens) => tokens,
-        Err(fault) => return Err(faulty(fault, ended)),
-    };
-    if tokens.is_empty() {
-        return Ok(draft);
+    match tokens(alloc, line) {
+        Ok(tokens) => take_tokens(alloc, draft, &tokens),
+        Err(fault) => Err(faulty(fault, draft.is_ended())),
     }
-    if ended {
-        return Err(Why::AfterEnd);
-    }
-    take_tokens(alloc, draft, &tokens)
 }
 
 // Why a line with a fault of tokens is refused.
@@ -83,20 +77,40 @@ fn faulty(fault: LexFault, ended: bool) -> Why
 // The draft behind a line of these tokens.
 fn take_tokens(alloc: Global, draft: Draft, tokens: &[Placed]) -> Result<Draft, Why>
     requires kept { IsKept draft }
-    requires going { (draft_of draft).stage ≢ lines.after_end }
-    requires some { tokens.now ≢ [] }
     requires written { AreWritten tokens.now }
     ensures { (line : List ℕ) → Lexes 0 line (map placed_of tokens.now) → TakesLine (draft_of draft) line result }
 {
+    match line_form(tokens, draft.is_ended())? {
+        Some(form) => draft.take(alloc, form),
+        None => Ok(draft),
+    }
+}
+
+// The form of a line of these tokens. `None` where there is no token.
+fn line_form<'a, 't>(tokens: &'t [Placed<'a>], ended: bool) -> Result<Option<Form<'a, 't>>, Why>
+    requires { AreWritten tokens.now }
+    ensures formed { IfOk result (λ there. IfSome there (λ form. (meant : Line) × IsFormOf form meant)) }
+    ensures judged { (draft : lines.Draft) (line : List ℕ) → (IsTrue ended ↔ (draft.stage ≡ lines.after_end)) → Lexes 0 line (map placed_of tokens.now)
+        → MatchResult result
+        (λ there. MatchOption there (Accepts draft line draft)
+        (λ form. (meant : Line) × IsFormOf form meant × ((next : Result Draft Why) → Takes draft meant next → TakesLine draft line next)))
+        (Tells (Refuses draft line)) }
+{
     // A law by which forms are those of lines. It does nothing.
     ve_formats::readers_read_what_is_spelled();
+    if tokens.is_empty() {
+        return Ok(None);
+    }
+    if ended {
+        return Err(Why::AfterEnd);
+    }
     if is_too_deep(tokens) {
         return Err(Why::TooDeep);
     }
     let Some(form) = form_of(tokens) else {
         return Err(Why::WrongLine);
     };
-    draft.take(alloc, form)
+    Ok(Some(form))
 }
 
 // Whether more parentheses are open somewhere than may be.

@@ -1,20 +1,21 @@
-use Rattle.std.proofs.Common.{◌≡◌, true}
+use Rattle.std.proofs.lemmas.Result.{err_from_is_err_and}
 use Rattle.ve_read.specs.Drafts.{draft_of}
-use Rattle.ve_read.proofs.LineSteps.{deep_line, formless_line, line_taken}
 use Rattle.ve_read.proofs.lines.take_tokens.Goals as goal
 
-pub returns-then-is_too_deep : goal.returns-then-is_too_deep
-returns-then-is_too_deep c = λ line lexes. deep_line (draft_of c.args.draft) line c.args.tokens.now c.requires.going lexes (c.is_too_deep.ensures.0 c.if-is_too_deep.true)
+pub returns-in_err-form : goal.returns-in_err-form
+returns-in_err-form c = λ line lexes.
+    let failed = err_from_is_err_and c.from_residual.result c.from_residual.ensures.1 in
+    rw (failed.1, failed.2) (c.in_err-form.ensures.judged (draft_of c.args.draft) line c.is_ended.ensures lexes)
 
-pub returns-in_default : goal.returns-in_default
-returns-in_default c = λ line lexes.
-    let shallow = c.if-is_too_deep.false in
-    formless_line (draft_of c.args.draft) line c.args.tokens.now c.requires.going lexes (λ h. let is : c.is_too_deep.result ≡ true = c.is_too_deep.ensures.1 h in cc)
-    c.readers_read_what_is_spelled.ensures.lines c.requires.some c.in_default.ensures
+pub take-requires-clause-formed : goal.take-requires-clause-formed
+take-requires-clause-formed c = rw c.in-Some.is at c.in_ok-form.ensures.formed
 
-pub returns : goal.returns
-returns c = λ line lexes.
-    let shallow = c.if-is_too_deep.false in
-    let found = c.in-Some.ensures in
-    line_taken (draft_of c.args.draft) line c.args.tokens.now c.requires.going lexes (λ h. let is : c.is_too_deep.result ≡ true = c.is_too_deep.ensures.1 h in cc)
-    c.readers_read_what_is_spelled.ensures.lines found.line found.is c.requires.some c.take.result (c.take.ensures found.line found.form_of_line)
+pub returns-in-None : goal.returns-in-None
+returns-in-None c = λ line lexes.
+    let accepts = rw c.in-None.is at (c.in_ok-form.ensures.judged (draft_of c.args.draft) line c.is_ended.ensures lexes) in
+    record { accepts = accepts; kept = c.requires.kept }
+
+pub returns-in-Some : goal.returns-in-Some
+returns-in-Some c = λ line lexes.
+    let there = rw c.in-Some.is at (c.in_ok-form.ensures.judged (draft_of c.args.draft) line c.is_ended.ensures lexes) in
+    there.2 c.take.result (c.take.ensures there.0 there.1)
