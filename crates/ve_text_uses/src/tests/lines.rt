@@ -19,82 +19,84 @@ macro_rules! symbol {
     };
 }
 
-const LINES: [(&[u8], &[Placed]); 16] = [
+// Lines with their tokens, or with their first fault.
+const LINES: [(&[u8], Result<&[Placed], LexFault>); 27] = [
     (
         b"a*12 # b",
-        &[
+        Ok(&[
             name!(b"a", 0, 1),
             symbol!(b'*', 1),
             number!(b"12", 12, 2, 4),
-        ],
+        ]),
     ),
-    (b"", &[]),
-    (b" \t\r", &[]),
-    (b"#", &[]),
-    (b"# \x00\xff$ 1234567890123456789", &[]),
-    (b"x#\x00\xff", &[name!(b"x", 0, 1)]),
-    (b"\tx\r", &[name!(b"x", 1, 2)]),
-    (b"_a1_Z9 b", &[name!(b"_a1_Z9", 0, 6), name!(b"b", 7, 8)]),
-    (b"_", &[name!(b"_", 0, 1)]),
-    (b"007", &[number!(b"007", 7, 0, 3)]),
-    (b"0", &[number!(b"0", 0, 0, 1)]),
+    (b"", Ok(&[])),
+    (b" \t\r", Ok(&[])),
+    (b"#", Ok(&[])),
+    (b"# \x00\xff$ 1234567890123456789", Ok(&[])),
+    (b"x#\x00\xff", Ok(&[name!(b"x", 0, 1)])),
+    (b"\tx\r", Ok(&[name!(b"x", 1, 2)])),
+    (
+        b"_a1_Z9 b",
+        Ok(&[name!(b"_a1_Z9", 0, 6), name!(b"b", 7, 8)]),
+    ),
+    (b"_", Ok(&[name!(b"_", 0, 1)])),
+    (b"007", Ok(&[number!(b"007", 7, 0, 3)])),
+    (b"0", Ok(&[number!(b"0", 0, 0, 1)])),
     (
         b"999999999999999999",
-        &[number!(b"999999999999999999", 999_999_999_999_999_999, 0, 18)],
+        Ok(&[number!(b"999999999999999999", 999_999_999_999_999_999, 0, 18)]),
     ),
     (
         b"000000000000000001",
-        &[number!(b"000000000000000001", 1, 0, 18)],
+        Ok(&[number!(b"000000000000000001", 1, 0, 18)]),
     ),
-    (b"12ab", &[number!(b"12", 12, 0, 2), name!(b"ab", 2, 4)]),
+    (b"12ab", Ok(&[number!(b"12", 12, 0, 2), name!(b"ab", 2, 4)])),
     (
         b"x^-2",
-        &[
+        Ok(&[
             name!(b"x", 0, 1),
             symbol!(b'^', 1),
             symbol!(b'-', 2),
             number!(b"2", 2, 3, 4),
-        ],
+        ]),
     ),
     (
         b"+(=)",
-        &[
+        Ok(&[
             symbol!(b'+', 0),
             symbol!(b'(', 1),
             symbol!(b'=', 2),
             symbol!(b')', 3),
-        ],
+        ]),
     ),
+    (b"a$", Err(LexFault::BadByte { at: 1 })),
+    (
+        b"  1234567890123456789",
+        Err(LexFault::LongNumber { at: 2 }),
+    ),
+    (b"0000000000000000000", Err(LexFault::LongNumber { at: 0 })),
+    (b"$ 1234567890123456789", Err(LexFault::BadByte { at: 0 })),
+    (
+        b"1234567890123456789 $",
+        Err(LexFault::LongNumber { at: 0 }),
+    ),
+    (b"$%", Err(LexFault::BadByte { at: 0 })),
+    (b"a \x00", Err(LexFault::BadByte { at: 2 })),
+    (b"12ab\xff # c", Err(LexFault::BadByte { at: 4 })),
+    (b"a1234567890123456789.", Err(LexFault::BadByte { at: 20 })),
+    (b"x/y", Err(LexFault::BadByte { at: 1 })),
+    (b"\x0b", Err(LexFault::BadByte { at: 0 })),
 ];
 
 #[test]
-fn lines_have_these_tokens(rt: HostRuntime) -> Result<(), Fail> {
+fn lines_have_these_tokens(rt: HostRuntime) {
     for (line, expected) in LINES {
-        let found = tokens(rt.alloc(), line)?;
-        assert_eq!(rt; found.as_slice(), expected, "at {line:?}");
-    }
-    Ok(())
-}
-
-#[test]
-fn lines_have_these_faults(rt: HostRuntime) {
-    let cases: [(&[u8], LexFault); 11] = [
-        (b"a$", LexFault::BadByte { at: 1 }),
-        (b"  1234567890123456789", LexFault::LongNumber { at: 2 }),
-        (b"0000000000000000000", LexFault::LongNumber { at: 0 }),
-        (b"$ 1234567890123456789", LexFault::BadByte { at: 0 }),
-        (b"1234567890123456789 $", LexFault::LongNumber { at: 0 }),
-        (b"$%", LexFault::BadByte { at: 0 }),
-        (b"a \x00", LexFault::BadByte { at: 2 }),
-        (b"12ab\xff # c", LexFault::BadByte { at: 4 }),
-        (b"a1234567890123456789.", LexFault::BadByte { at: 20 }),
-        (b"x/y", LexFault::BadByte { at: 1 }),
-        (b"\x0b", LexFault::BadByte { at: 0 }),
-    ];
-    for (line, expected) in cases {
-        match tokens(rt.alloc(), line) {
-            Ok(_) => assert!(rt; false, "{line:?} has tokens"),
-            Err(fault) => assert_eq!(rt; fault, expected, "at {line:?}"),
+        match (tokens(rt.alloc(), line), expected) {
+            (Ok(found), Ok(expected)) => {
+                assert_eq!(rt; found.as_slice(), expected, "at {line:?}");
+            }
+            (Err(fault), Err(expected)) => assert_eq!(rt; fault, expected, "at {line:?}"),
+            _ => assert!(rt; false, "at {line:?}"),
         }
     }
 }
@@ -132,21 +134,4 @@ fn texts_have_these_lines(rt: HostRuntime) {
         }
         assert!(rt; next_line(rest).is_none(), "too many lines in {text:?}");
     }
-}
-
-#[test]
-fn faults_are_told(rt: HostRuntime) -> Result<(), Fail> {
-    let cases = [
-        (LexFault::BadByte { at: 7 }, "byte 7 begins no token"),
-        (
-            LexFault::LongNumber { at: 0 },
-            "number at byte 0 has more than 18 digits",
-        ),
-        (LexFault::Memory, "out of memory"),
-    ];
-    for (fault, expected) in cases {
-        let told = fault.to_string(rt.alloc())?;
-        assert_eq!(rt; told.as_str(), expected);
-    }
-    Ok(())
 }

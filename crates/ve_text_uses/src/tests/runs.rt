@@ -1,5 +1,6 @@
 //! Runs from bytes to bytes: each row is an input, with what the streams do, and what the run leaves.
 
+use super::strings;
 use std::alloc::Global;
 use std::test::Fail;
 use ve_main::run_alone;
@@ -118,74 +119,79 @@ const SHOWN: [(&str, &str); 13] = [
     ),
 ];
 
-/// Options of `alone`, a text, and the status and the text that they end with.
-const LIMITED: [(&[&str], &str, u8, &str); 9] = [
+/// Lists of words, a text with what follows it, and how the program ends on each list.
+const RUNS: [(&[&[&str]], &str, &str, u8, &str, &str); 23] = [
+    // Limits and summaries.
     (
-        &["venum", "alone", "--limit", "2"],
+        &[
+            &["venum", "alone", "--limit", "2"],
+            &["venum", "alone", "--limit=2"],
+        ],
         TWO_CYCLE,
+        "",
         1,
         "venum-over 1\nlevel 2\nsize 3\nlimit 2\nend\n",
+        "",
     ),
     (
-        &["venum", "alone", "--limit=2"],
+        &[&["venum", "alone", "--limit", "3"]],
         TWO_CYCLE,
-        1,
-        "venum-over 1\nlevel 2\nsize 3\nlimit 2\nend\n",
-    ),
-    (
-        &["venum", "alone", "--limit", "3"],
-        TWO_CYCLE,
+        "",
         0,
         TWO_CYCLE_ANSWER,
+        "",
     ),
     (
-        &["venum", "alone", "--limit", "7"],
+        &[&["venum", "alone", "--limit", "7"]],
         TRIANGLE,
+        "",
         1,
         "venum-over 1\nlevel 6\nsize 8\nlimit 7\nend\n",
+        "",
     ),
     (
-        &["venum", "alone", "--limit", "8"],
+        &[&["venum", "alone", "--limit", "8"]],
         TRIANGLE,
+        "",
         0,
         TRIANGLE_ANSWER,
+        "",
     ),
     (
-        &["venum", "alone", "--limit", "10"],
+        &[&["venum", "alone", "--limit", "10"]],
         "venum 1\nprime 2\nletter x\nmodule 1\nend\n",
+        "",
         1,
         "venum-over 1\nlevel 10\nsize 11\nlimit 10\nend\n",
+        "",
     ),
     (
-        &["venum", "alone", "--limit", "10"],
+        &[&["venum", "alone", "--limit", "10"]],
         "venum 1\nprime 2\nletter x\nmodule 1\nrelation 2*x = 0\nend\n",
+        "",
         1,
         "venum-over 1\nlevel 10\nsize 11\nlimit 10\nend\n",
+        "",
     ),
     (
-        &["venum", "alone", "--limit", "1"],
+        &[&["venum", "alone", "--limit", "1"]],
         "venum 1\nprime 2\nletter x\nmodule 2\nend\n",
+        "",
         1,
         "venum-over 1\nlevel 0\nsize 2\nlimit 1\nend\n",
+        "",
     ),
     (
-        &["venum", "alone", "--summary", "--limit", "8"],
+        &[&["venum", "alone", "--summary", "--limit", "8"]],
         TRIANGLE,
+        "",
         0,
         "venum-summary 1\ndimension 3\nletter a nonzero 3 trace 1\nletter b nonzero 3 trace 1\nend\n",
+        "",
     ),
-];
-
-/// The reflections of the triangle.
-const TRIANGLE: &str =
-    "venum 1\nprime 3\ninvolution a\ninvolution b\nmodule 1\nrelation (a*b)^3 = 1\nsub e1*a = e1\nend\n";
-
-const TRIANGLE_ANSWER: &str =
-    "venum-answer 1\nprime 3\nletters a b\nmodule 1\nclosed 8\ndimension 3\nbasis e1\nbasis e1*b\nbasis e1*b*a\nimage 1 0 0\nletter a\nrow 1 0 0\nrow 0 0 1\nrow 0 1 0\nletter b\nrow 0 1 0\nrow 1 0 0\nrow 0 0 1\nend\n";
-
-/// Texts with what is claimed as their answers, and how `check` ends.
-const CLAIMED: [(&str, &str, u8, &str, &str); 9] = [
+    // Claims.
     (
+        CHECK,
         TWO_CYCLE,
         "venum-answer 1\nprime 2\nletters x\nmodule 1\nclosed 3\ndimension 2\nbasis e1\nbasis e1*x\nimage 1 0\nletter x\nrow 0 1\nrow 1 1\nend\n",
         7,
@@ -193,6 +199,7 @@ const CLAIMED: [(&str, &str, u8, &str, &str); 9] = [
         "",
     ),
     (
+        CHECK,
         TWO_CYCLE,
         "venum-answer 1\nprime 3\nletters x\nmodule 1\nclosed 3\ndimension 2\nbasis e1\nbasis e1*x\nimage 1 0\nletter x\nrow 0 1\nrow 1 0\nend\n",
         7,
@@ -201,6 +208,7 @@ const CLAIMED: [(&str, &str, u8, &str, &str); 9] = [
     ),
     // The zero module is a quotient of each.
     (
+        CHECK,
         TWO_CYCLE,
         "venum-answer 1\nprime 2\nletters x\nmodule 1\nclosed 1\ndimension 0\nimage\nletter x\nend\n",
         0,
@@ -208,6 +216,7 @@ const CLAIMED: [(&str, &str, u8, &str, &str); 9] = [
         "",
     ),
     (
+        CHECK,
         TRIANGLE,
         "venum-answer 1\nprime 3\nletters a b\nmodule 1\nclosed 8\ndimension 3\nbasis e1\nbasis e1*b\nbasis e1*b*a\nimage 0 1 0\nletter a\nrow 1 0 0\nrow 0 0 1\nrow 0 1 0\nletter b\nrow 0 1 0\nrow 1 0 0\nrow 0 0 1\nend\n",
         7,
@@ -215,6 +224,7 @@ const CLAIMED: [(&str, &str, u8, &str, &str); 9] = [
         "",
     ),
     (
+        CHECK,
         TRIANGLE,
         "venum-answer 1\nprime 3\nletters a b\nmodule 1\nclosed 8\ndimension 3\nbasis e1\nbasis e1*b\nbasis e1*b*a\nimage 1 0 0\nletter a\nrow 1 0 0\nrow 0 0 2\nrow 0 2 0\nletter b\nrow 0 1 0\nrow 1 0 0\nrow 0 0 1\nend\n",
         7,
@@ -222,6 +232,7 @@ const CLAIMED: [(&str, &str, u8, &str, &str); 9] = [
         "",
     ),
     (
+        CHECK,
         TWO_CYCLE,
         "prime 2\nletters x\nmodule 1\nclosed 3\ndimension 2\nbasis e1\nbasis e1*x\nimage 1 0\nletter x\nrow 0 1\nrow 1 0\nend\n",
         3,
@@ -229,6 +240,7 @@ const CLAIMED: [(&str, &str, u8, &str, &str); 9] = [
         "venum: answer line 1: not an answer\n",
     ),
     (
+        CHECK,
         TWO_CYCLE,
         "venum-answer 1\nprime 2\nletters x\nmodule 1\nclosed 3\ndimension 2\nbasis e1\nbasis e1*x\nimage 1 0\nletter x\nrow 0 1\nrow 1 0\nend\nend\n",
         3,
@@ -236,6 +248,7 @@ const CLAIMED: [(&str, &str, u8, &str, &str); 9] = [
         "venum: answer line 14: not an answer\n",
     ),
     (
+        CHECK,
         TWO_CYCLE,
         "",
         3,
@@ -244,36 +257,102 @@ const CLAIMED: [(&str, &str, u8, &str, &str); 9] = [
     ),
     // The presentation is judged first.
     (
+        CHECK,
         "venum 1\nprime 9\n",
         "",
         3,
         "",
         "venum: line 2: not a prime below 256\n",
     ),
-];
-
-/// Points, node and prime, and how `make` ends.
-const MADE: [(&str, &str, &str, u8, &str, &str); 5] = [
+    // The last line feed may be missing.
     (
-        "3",
-        "2",
-        "3",
+        CHECK,
+        TWO_CYCLE,
+        "venum-answer 1\nprime 2\nletters x\nmodule 1\nclosed 3\ndimension 2\nbasis e1\nbasis e1*x\nimage 1 0\nletter x\nrow 0 1\nrow 1 0\nend",
+        0,
+        "yes\n",
+        "",
+    ),
+    (
+        CHECK,
+        TWO_CYCLE,
+        "venum-answer 1\n",
+        3,
+        "",
+        "venum: answer line 2: not an answer\n",
+    ),
+    // Presentations that are made.
+    (
+        &[&[
+            "venum", "make", "--prime", "3", "--points", "3", "--node", "2",
+        ]],
+        "",
+        "",
         0,
         "venum 1\nprime 3\ninvolution s1\ninvolution s2\nmodule 1\nrelation s1*s2*s1*s2*s1*s2 + 2 = 0\nsub e1*s1 + 2*e1 = 0\nend\n",
         "",
     ),
     (
-        "4",
-        "1",
-        "2",
+        &[&[
+            "venum", "make", "--prime", "2", "--points", "4", "--node", "1",
+        ]],
+        "",
+        "",
         0,
         "venum 1\nprime 2\ninvolution s1\ninvolution s2\ninvolution s3\nmodule 1\nrelation s1*s2*s1*s2*s1*s2 + 1 = 0\nrelation s1*s3*s1*s3 + 1 = 0\nrelation s2*s3*s2*s3*s2*s3 + 1 = 0\nsub e1*s2 + e1 = 0\nsub e1*s3 + e1 = 0\nend\n",
         "",
     ),
-    ("1", "1", "3", 3, "", "venum: no such presentation\n"),
-    ("26", "1", "3", 3, "", "venum: no such presentation\n"),
-    ("5", "2", "9", 3, "", "venum: no such presentation\n"),
+    (
+        &[
+            &[
+                "venum", "make", "--prime", "3", "--points", "1", "--node", "1",
+            ],
+            &[
+                "venum", "make", "--prime", "3", "--points", "26", "--node", "1",
+            ],
+            &[
+                "venum", "make", "--prime", "9", "--points", "5", "--node", "2",
+            ],
+        ],
+        "",
+        "",
+        3,
+        "",
+        "venum: no such presentation\n",
+    ),
+    // Words without a meaning.
+    (
+        &[
+            &[],
+            &["venum"],
+            &["venum", "fly"],
+            &["venum", "Alone"],
+            &["venum", "alone", "--limit", "0"],
+            &["venum", "alone", "--limit", "1000001"],
+            &["venum", "alone", "--help"],
+            &["venum", "alone", "--", "extra"],
+            &["venum", "shared", "--workers", "65"],
+            &["venum", "show", "extra"],
+            &["venum", "show", "--limit", "7"],
+            &["venum", "check", "extra"],
+            &["venum", "make", "--points", "3", "--node", "2"],
+        ],
+        TWO_CYCLE,
+        "",
+        2,
+        "",
+        USAGE,
+    ),
 ];
+
+const CHECK: &[&[&str]] = &[&["venum", "check"]];
+
+/// The reflections of the triangle.
+const TRIANGLE: &str =
+    "venum 1\nprime 3\ninvolution a\ninvolution b\nmodule 1\nrelation (a*b)^3 = 1\nsub e1*a = e1\nend\n";
+
+const TRIANGLE_ANSWER: &str =
+    "venum-answer 1\nprime 3\nletters a b\nmodule 1\nclosed 8\ndimension 3\nbasis e1\nbasis e1*b\nbasis e1*b*a\nimage 1 0 0\nletter a\nrow 1 0 0\nrow 0 0 1\nrow 0 1 0\nletter b\nrow 0 1 0\nrow 1 0 0\nrow 0 0 1\nend\n";
 
 /// Texts that are refused, with what is told.
 const REFUSED: [(&str, &str); 27] = [
@@ -385,7 +464,7 @@ const REFUSED: [(&str, &str); 27] = [
 ];
 
 /// The parts of a text, of which the middle one stands many times, with what is told of it.
-const REPEATED: [(&str, &str, usize, &str, &str); 3] = [
+const REPEATED: [(&str, &str, usize, &str, &str); 5] = [
     (
         "venum 1\nprime 2\nletter x\nmodule 1\n",
         "relation x = x\n",
@@ -407,11 +486,149 @@ const REPEATED: [(&str, &str, usize, &str, &str); 3] = [
         "module 1\nend\n",
         "venum: line 35: more than 32 letters\n",
     ),
+    // A comment as long as an input may be, and one byte more.
+    ("", SIGNS, 262_144, "", "venum: line 2: end is missing\n"),
+    (
+        "",
+        SIGNS,
+        262_144,
+        "#",
+        "venum: input longer than 16777216 bytes\n",
+    ),
 ];
+
+/// The signs of a comment, 64 of them.
+const SIGNS: &str = "################################################################";
 
 /// The first lines of a text, with 32 letters.
 const LETTERS: &str =
     "venum 1\nprime 2\nletter a\nletter b\nletter c\nletter d\nletter e\nletter f\nletter g\nletter h\nletter i\nletter j\nletter k\nletter l\nletter m\nletter n\nletter o\nletter p\nletter q\nletter r\nletter s\nletter t\nletter u\nletter v\nletter w\nletter x\nletter y\nletter z\nletter A\nletter B\nletter C\nletter D\nletter E\nletter F\n";
+
+/// Words, a text, the calls of the source, the output and the error output that fail, counted from 1 (0 for none), and how the
+/// program ends. What was put before the call that failed is the front of the text.
+const STREAMS: [(&[&str], &str, (u32, u32, u32), u8, &str, &str); 16] = [
+    (
+        &["venum", "show"],
+        TWO_CYCLE,
+        (1, 0, 0),
+        4,
+        "",
+        "venum: input failed\n",
+    ),
+    (
+        &["venum", "show"],
+        TWO_CYCLE,
+        (2, 0, 0),
+        4,
+        "",
+        "venum: input failed\n",
+    ),
+    (
+        &["venum", "show"],
+        TWO_CYCLE,
+        (3, 0, 0),
+        0,
+        TWO_CYCLE_SHOWN,
+        "",
+    ),
+    (&["venum", "alone"], "", (0, 0, 1), 3, "", ""),
+    (
+        &["venum", "alone"],
+        TWO_CYCLE,
+        (0, 1, 0),
+        5,
+        "",
+        "venum: output failed\n",
+    ),
+    (
+        &["venum", "alone"],
+        TWO_CYCLE,
+        (0, 2, 0),
+        5,
+        "venum-answer 1\n",
+        "venum: output failed\n",
+    ),
+    (
+        &["venum", "alone"],
+        TWO_CYCLE,
+        (0, 13, 0),
+        5,
+        "venum-answer 1\nprime 2\nletters x\nmodule 1\nclosed 3\ndimension 2\nbasis e1\nbasis e1*x\nimage 1 0\nletter x\nrow 0 1\nrow 1 0\n",
+        "venum: output failed\n",
+    ),
+    (
+        &["venum", "alone"],
+        TWO_CYCLE,
+        (0, 14, 0),
+        0,
+        TWO_CYCLE_ANSWER,
+        "",
+    ),
+    (
+        &["venum", "show"],
+        TWO_CYCLE,
+        (0, 1, 0),
+        5,
+        "",
+        "venum: output failed\n",
+    ),
+    (
+        &["venum", "show"],
+        TWO_CYCLE,
+        (0, 6, 0),
+        5,
+        "venum 1\nprime 2\nletter x\nmodule 1\nrelation x*x + 1 = 0\n",
+        "venum: output failed\n",
+    ),
+    (
+        &["venum", "show"],
+        TWO_CYCLE,
+        (0, 7, 0),
+        0,
+        TWO_CYCLE_SHOWN,
+        "",
+    ),
+    (
+        &["venum", "show"],
+        "venum 1\nprime 5\nletter x inverse X\nmodule 2\nend\n",
+        (0, 4, 0),
+        5,
+        "venum 1\nprime 5\nletter x inverse X\n",
+        "venum: output failed\n",
+    ),
+    (
+        &["venum", "show"],
+        "venum 1\nprime 5\nletter x inverse X\nmodule 2\nend\n",
+        (0, 5, 0),
+        5,
+        "venum 1\nprime 5\nletter x inverse X\nmodule 2\n",
+        "venum: output failed\n",
+    ),
+    (
+        &["venum", "show"],
+        "venum 1\nprime 5\nletter x inverse X\nmodule 2\nend\n",
+        (0, 6, 0),
+        0,
+        "venum 1\nprime 5\nletter x inverse X\nmodule 2\nend\n",
+        "",
+    ),
+    (
+        &["venum", "alone", "--limit", "2"],
+        TWO_CYCLE,
+        (0, 1, 0),
+        5,
+        "",
+        "venum: output failed\n",
+    ),
+    (
+        &["venum", "alone", "--limit", "2"],
+        TWO_CYCLE,
+        (0, 4, 0),
+        5,
+        "venum-over 1\nlevel 2\nsize 3\n",
+        "venum: output failed\n",
+    ),
+];
 
 const USAGE: &str = "venum: usage: venum alone, shared, show, check or make, with their options\n";
 
@@ -432,29 +649,18 @@ impl Left {
     }
 }
 
-/// The calls of the source, the output and the error output that fail, counted from 1; 0 for none.
-#[derive(Clone, Copy)]
-struct Failing {
-    source: u32,
-    out: u32,
-    err: u32,
-}
-
-const SOUND: Failing = Failing {
-    source: 0,
-    out: 0,
-    err: 0,
-};
-
-fn run(alloc: Global, words: &[&str], input: Vec<u8>, failing: Failing) -> Result<Left, Memory> {
-    let mut given = Vec::new(alloc);
-    for word in words {
-        given.push(String::from_str(alloc, word)?)?;
-    }
-    let mut source = MemSource::new(input, one(alloc, failing.source)?);
-    let mut out = MemSink::new(alloc, one(alloc, failing.out)?);
-    let mut err = MemSink::new(alloc, one(alloc, failing.err)?);
-    let status = run_alone(alloc, &given, &mut source, &mut out, &mut err);
+/// Runs words on an input. The numbers are the calls of the source, the output and the error output that fail.
+fn run(
+    alloc: Global,
+    words: &[&str],
+    input: Vec<u8>,
+    failing: (u32, u32, u32),
+) -> Result<Left, Memory> {
+    let words = strings(alloc, words)?;
+    let mut source = MemSource::new(input, one(alloc, failing.0)?);
+    let mut out = MemSink::new(alloc, one(alloc, failing.1)?);
+    let mut err = MemSink::new(alloc, one(alloc, failing.2)?);
+    let status = run_alone(alloc, &words, &mut source, &mut out, &mut err);
     Ok(Left {
         status,
         out: out.written().clone()?,
@@ -462,17 +668,18 @@ fn run(alloc: Global, words: &[&str], input: Vec<u8>, failing: Failing) -> Resul
     })
 }
 
-/// Runs a command on a text.
-fn run_on(alloc: Global, command: &str, text: &str) -> Result<Left, Memory> {
-    run(alloc, &["venum", command], bytes(alloc, text)?, SOUND)
+/// Runs words on a text and what follows it.
+fn run_on(alloc: Global, words: &[&str], text: &str, behind: &str) -> Result<Left, Memory> {
+    run(
+        alloc,
+        words,
+        repeated(alloc, text, "", 0, behind)?,
+        (0, 0, 0),
+    )
 }
 
 fn one(alloc: Global, number: u32) -> Result<Vec<u32>, Memory> {
     Ok(vec![in alloc; number]?)
-}
-
-fn bytes(alloc: Global, text: &str) -> Result<Vec<u8>, Memory> {
-    repeated(alloc, text, "", 0, "")
 }
 
 /// A text with a part that stands many times.
@@ -492,182 +699,73 @@ fn repeated(
     Ok(text)
 }
 
-/// So many signs of a comment.
-fn hashes(alloc: Global, length: usize) -> Result<Vec<u8>, Memory> {
-    Ok(vec![in alloc; b'#'; length]?)
-}
-
 #[test]
-fn answers(rt: HostRuntime) -> Result<(), Fail> {
+fn answers_are_found_and_confirmed(rt: HostRuntime) -> Result<(), Fail> {
     for (text, answer) in &ANSWERED {
-        for command in ["alone", "shared"] {
-            assert!(rt;
-                run_on(rt.alloc(), command, text)?.is(0, answer, ""),
-                "{text}"
-            );
-        }
-        let claim = repeated(rt.alloc(), text, "", 0, answer)?;
-        let left = run(rt.alloc(), &["venum", "check"], claim, SOUND)?;
-        assert!(rt; left.is(0, "yes\n", ""), "{text}");
-    }
-    Ok(())
-}
-
-#[test]
-fn claims(rt: HostRuntime) -> Result<(), Fail> {
-    let alloc = rt.alloc();
-    for (text, answer, status, out, err) in &CLAIMED {
-        let claim = repeated(alloc, text, "", 0, answer)?;
-        let left = run(alloc, &["venum", "check"], claim, SOUND)?;
-        assert!(rt; left.is(*status, out, err), "{answer}");
-    }
-    Ok(())
-}
-
-#[test]
-fn limits_and_summaries(rt: HostRuntime) -> Result<(), Fail> {
-    let alloc = rt.alloc();
-    for (options, text, status, out) in &LIMITED {
-        let left = run(alloc, options, bytes(alloc, text)?, SOUND)?;
-        assert!(rt; left.is(*status, out, ""), "{text}");
-    }
-    Ok(())
-}
-
-#[test]
-fn made_presentations(rt: HostRuntime) -> Result<(), Fail> {
-    let alloc = rt.alloc();
-    for (points, node, prime, status, out, err) in &MADE {
-        let words = [
-            "venum", "make", "--prime", prime, "--points", points, "--node", node,
+        let table = [
+            ("alone", "", *answer),
+            ("shared", "", *answer),
+            ("check", *answer, "yes\n"),
         ];
-        let left = run(alloc, &words, Vec::new(alloc), SOUND)?;
-        assert!(rt; left.is(*status, out, err), "{points} {node} {prime}");
+        for (command, behind, out) in table {
+            let left = run_on(rt.alloc(), &["venum", command], text, behind)?;
+            assert!(rt; left.is(0, out, ""), "{command} {text}");
+        }
     }
     Ok(())
 }
 
 #[test]
-fn canonical_texts(rt: HostRuntime) -> Result<(), Fail> {
-    let alloc = rt.alloc();
+fn canonical_texts_are_shown(rt: HostRuntime) -> Result<(), Fail> {
     for (text, shown) in &SHOWN {
-        assert!(rt; run_on(alloc, "show", text)?.is(0, shown, ""), "{text}");
-        assert!(rt; run_on(alloc, "show", shown)?.is(0, shown, ""), "{shown}");
+        for text in [*text, *shown] {
+            let left = run_on(rt.alloc(), &["venum", "show"], text, "")?;
+            assert!(rt; left.is(0, shown, ""), "{text}");
+        }
     }
     Ok(())
 }
 
 #[test]
-fn refused_texts(rt: HostRuntime) -> Result<(), Fail> {
-    let alloc = rt.alloc();
+fn texts_are_refused_where_they_fail(rt: HostRuntime) -> Result<(), Fail> {
     for (text, message) in &REFUSED {
-        assert!(rt; run_on(alloc, "alone", text)?.is(3, "", message), "{text}");
-        assert!(rt; run_on(alloc, "show", text)?.is(3, "", message), "{text}");
+        for command in ["alone", "show"] {
+            let left = run_on(rt.alloc(), &["venum", command], text, "")?;
+            assert!(rt; left.is(3, "", message), "{command} {text}");
+        }
     }
     Ok(())
 }
 
 #[test]
-fn limits_of_texts(rt: HostRuntime) -> Result<(), Fail> {
+fn words_end_as_they_say(rt: HostRuntime) -> Result<(), Fail> {
+    for (lists, text, behind, status, out, err) in &RUNS {
+        for words in *lists {
+            let left = run_on(rt.alloc(), words, text, behind)?;
+            assert!(rt; left.is(*status, out, err), "{text}{behind}{out}{err}");
+        }
+    }
+    Ok(())
+}
+
+#[test]
+fn long_texts_are_refused(rt: HostRuntime) -> Result<(), Fail> {
     let alloc = rt.alloc();
     for (front, part, count, back, message) in &REPEATED {
         let input = repeated(alloc, front, part, *count, back)?;
-        let left = run(alloc, &["venum", "show"], input, SOUND)?;
+        let left = run(alloc, &["venum", "show"], input, (0, 0, 0))?;
         assert!(rt; left.is(3, "", message), "{message}");
     }
     Ok(())
 }
 
 #[test]
-fn lengths_of_inputs(rt: HostRuntime) -> Result<(), Fail> {
-    let table = [
-        (16_777_216, "venum: line 2: end is missing\n"),
-        (16_777_217, "venum: input longer than 16777216 bytes\n"),
-    ];
-    for (length, message) in table {
-        let comment = hashes(rt.alloc(), length)?;
-        let left = run(rt.alloc(), &["venum", "alone"], comment, SOUND)?;
-        assert!(rt; left.is(3, "", message), "{length} bytes");
-    }
-    Ok(())
-}
-
-#[test]
-fn refused_words(rt: HostRuntime) -> Result<(), Fail> {
+fn streams_that_fail_are_told(rt: HostRuntime) -> Result<(), Fail> {
     let alloc = rt.alloc();
-    let table: [&[&str]; 13] = [
-        &[],
-        &["venum"],
-        &["venum", "fly"],
-        &["venum", "Alone"],
-        &["venum", "alone", "--limit", "0"],
-        &["venum", "alone", "--limit", "1000001"],
-        &["venum", "alone", "--help"],
-        &["venum", "alone", "--", "extra"],
-        &["venum", "shared", "--workers", "65"],
-        &["venum", "show", "extra"],
-        &["venum", "show", "--limit", "7"],
-        &["venum", "check", "extra"],
-        &["venum", "make", "--points", "3", "--node", "2"],
-    ];
-    for words in table {
-        let left = run(alloc, words, bytes(alloc, TWO_CYCLE)?, SOUND)?;
-        assert!(rt; left.is(2, "", USAGE));
+    for (words, text, failing, status, out, err) in &STREAMS {
+        let input = repeated(alloc, text, "", 0, "")?;
+        let left = run(alloc, words, input, *failing)?;
+        assert!(rt; left.is(*status, out, err), "{text}{out}{err}");
     }
-    Ok(())
-}
-
-#[test]
-fn outputs_that_fail(rt: HostRuntime) -> Result<(), Fail> {
-    let alloc = rt.alloc();
-    let table = [
-        ("alone", TWO_CYCLE_ANSWER, 13),
-        ("show", TWO_CYCLE_SHOWN, 6),
-    ];
-    for (command, whole, lines) in table {
-        // Up to one call more than the longer text has lines.
-        for call in 1..=14 {
-            let failing = Failing { out: call, ..SOUND };
-            let left = run(
-                alloc,
-                &["venum", command],
-                bytes(alloc, TWO_CYCLE)?,
-                failing,
-            )?;
-            let status = if call <= lines { 5 } else { 0 };
-            assert_eq!(rt; left.status, status, "call {call} of the output");
-            assert!(rt; whole.as_bytes().starts_with(&left.out));
-            let written = left.out.iter().filter(|byte| **byte == b'\n').count();
-            assert_eq!(rt; written, (call as usize - 1).min(lines as usize));
-        }
-    }
-    Ok(())
-}
-
-#[test]
-fn inputs_that_fail(rt: HostRuntime) -> Result<(), Fail> {
-    let alloc = rt.alloc();
-    let table = [
-        (1, 4, "", "venum: input failed\n"),
-        (2, 4, "", "venum: input failed\n"),
-        (3, 0, TWO_CYCLE_SHOWN, ""),
-    ];
-    for (call, status, out, err) in table {
-        let failing = Failing {
-            source: call,
-            ..SOUND
-        };
-        let left = run(alloc, &["venum", "show"], bytes(alloc, TWO_CYCLE)?, failing)?;
-        assert!(rt; left.is(status, out, err), "call {call} of the source");
-    }
-    Ok(())
-}
-
-#[test]
-fn error_outputs_that_fail(rt: HostRuntime) -> Result<(), Fail> {
-    let alloc = rt.alloc();
-    let failing = Failing { err: 1, ..SOUND };
-    let left = run(alloc, &["venum", "alone"], bytes(alloc, "")?, failing)?;
-    assert!(rt; left.is(3, "", ""));
     Ok(())
 }

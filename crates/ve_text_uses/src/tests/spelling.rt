@@ -6,7 +6,6 @@ ghost use Rattle.ve_theory.specs.Words.{letters};
 mod names;
 mod order;
 mod text;
-mod word;
 
 use std::alloc::Global;
 use ve_word::{Memory, Word};

@@ -1,5 +1,4 @@
 //! Sources and sinks of bytes.
 
 mod edge;
-mod lines;
 mod memory;

@@ -1,76 +1,36 @@
 use super::{is_below, word_of};
 use std::cmp::Ordering;
+use std::cmp::Ordering::{Equal, Greater, Less};
 use std::test::Fail;
 use ve_word::{shortlex, weighted};
 
-#[test]
-fn shorter_words_come_first(rt: HostRuntime) -> Result<(), Fail> {
-    let cases = [
-        (0, [1].as_slice(), 1, [0].as_slice(), Ordering::Less),
-        (1, [].as_slice(), 0, [0].as_slice(), Ordering::Less),
-        (0, [0, 0].as_slice(), 1, [1].as_slice(), Ordering::Greater),
-        (
-            2,
-            [4, 0, 3].as_slice(),
-            2,
-            [4, 1, 0].as_slice(),
-            Ordering::Less,
-        ),
-        (
-            2,
-            [4, 1, 0].as_slice(),
-            2,
-            [4, 1, 0].as_slice(),
-            Ordering::Equal,
-        ),
-        (0, [].as_slice(), 0, [].as_slice(), Ordering::Equal),
-        (255, [].as_slice(), 254, [].as_slice(), Ordering::Greater),
-    ];
-    for (first_root, first_letters, second_root, second_letters, expected) in cases {
-        let first = word_of(rt.alloc(), first_root, first_letters)?;
-        let second = word_of(rt.alloc(), second_root, second_letters)?;
-        assert_eq!(rt; shortlex(&first, &second), expected);
-        assert_eq!(rt; shortlex(&second, &first), expected.reverse());
-    }
-    Ok(())
-}
+// Two words, each a root and letters, and their orders by length and by weight. The letters 0, 1 and 2 weigh 3, 1 and 0.
+const PAIRS: [(u8, &[u8], u8, &[u8], Ordering, Ordering); 13] = [
+    (0, &[1], 1, &[0], Less, Less),
+    (1, &[], 0, &[0], Less, Less),
+    (0, &[0, 0], 1, &[1], Greater, Greater),
+    (2, &[1, 0, 2], 2, &[1, 2, 0], Less, Less),
+    (2, &[1, 2, 0], 2, &[1, 2, 0], Equal, Equal),
+    (0, &[], 0, &[], Equal, Equal),
+    (255, &[], 254, &[], Greater, Greater),
+    (0, &[0], 0, &[1], Less, Greater),
+    (0, &[1, 1], 0, &[0], Greater, Less),
+    (0, &[1, 1, 1], 0, &[0], Greater, Greater),
+    (1, &[0], 0, &[1, 1, 1], Less, Greater),
+    (0, &[1], 0, &[1, 2], Less, Equal),
+    (0, &[2, 1], 0, &[1], Greater, Greater),
+];
 
-// The letters 0, 1 and 2 weigh 3, 1 and 0.
 #[test]
-fn lighter_words_come_first(rt: HostRuntime) -> Result<(), Fail> {
-    let mut weights = Vec::new(rt.alloc());
-    for weight in [3, 1, 0] {
-        weights.push(weight)?;
-    }
-    let cases = [
-        (0, [0].as_slice(), 0, [1].as_slice(), Ordering::Greater),
-        (0, [1, 1].as_slice(), 0, [0].as_slice(), Ordering::Less),
-        (
-            0,
-            [1, 1, 1].as_slice(),
-            0,
-            [0].as_slice(),
-            Ordering::Greater,
-        ),
-        (
-            1,
-            [0].as_slice(),
-            0,
-            [1, 1, 1].as_slice(),
-            Ordering::Greater,
-        ),
-        (1, [].as_slice(), 0, [1].as_slice(), Ordering::Less),
-        (0, [1, 0].as_slice(), 0, [1, 0].as_slice(), Ordering::Equal),
-        (0, [1].as_slice(), 0, [1, 2].as_slice(), Ordering::Equal),
-        (0, [2, 1].as_slice(), 0, [1].as_slice(), Ordering::Greater),
-    ];
-    for (first_root, first_letters, second_root, second_letters, expected) in cases {
+fn shorter_or_lighter_words_come_first(rt: HostRuntime) -> Result<(), Fail> {
+    let weights = vec![in rt.alloc(); 3, 1, 0]?;
+    for (first_root, first_letters, second_root, second_letters, by_length, by_weight) in PAIRS {
         let first = word_of(rt.alloc(), first_root, first_letters)?;
         let second = word_of(rt.alloc(), second_root, second_letters)?;
         assert!(rt; is_below(&first, weights.len()));
         assert!(rt; is_below(&second, weights.len()));
-        assert_eq!(rt; weighted(&first, &second, &weights), expected);
-        assert_eq!(rt; weighted(&second, &first, &weights), expected.reverse());
+        assert_eq!(rt; shortlex(&first, &second), by_length);
+        assert_eq!(rt; weighted(&first, &second, &weights), by_weight);
     }
     Ok(())
 }

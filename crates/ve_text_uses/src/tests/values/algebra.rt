@@ -4,52 +4,74 @@ use std::test::Fail;
 use ve_pres::{FreeAlg, Limit, Presentation};
 use ve_value::{ValueFault, difference_of, is_expression};
 
-// Relations and the terms of their differences, each a coefficient and letters.
-const ACCEPTED: [(&str, &str, &[(u8, &[u8])]); 14] = [
-    ("x*a", "a*x", &[(4, &[2, 0]), (1, &[0, 2])]),
-    ("- x + a", "0", &[(1, &[2]), (4, &[0])]),
-    ("+ x - a - a", "0", &[(3, &[2]), (1, &[0])]),
-    ("-(x + a)*2 + x", "0", &[(3, &[2]), (4, &[0])]),
-    ("x^-1", "0", &[(1, &[1])]),
-    ("a*x^-2", "x^3", &[(1, &[2, 1, 1]), (4, &[0, 0, 0])]),
-    ("x*a^2", "0", &[(1, &[0, 2, 2])]),
-    ("(x + 1)^2", "1", &[(1, &[0, 0]), (2, &[0])]),
-    ("2*x - 3", "x", &[(1, &[0]), (2, &[])]),
-    ("a - (x - 1)", "0", &[(1, &[2]), (4, &[0]), (1, &[])]),
-    ("x^0 + 7", "3", &[]),
-    ("1^1000", "X^-0", &[]),
-    ("((x))", "5*a", &[(1, &[0])]),
-    ("x", "x", &[]),
-];
+// A relation and the terms of its difference, each a coefficient and letters; or the first fault of the left side, or else of
+// the right one; or none, where the left side is no expression.
+type Row = (
+    &'static str,
+    &'static str,
+    Option<Result<&'static [(u8, &'static [u8])], ValueFault>>,
+);
 
-// Relations that are refused: the first fault of the left side, or else of the right one.
-const REFUSED: [(&str, &str, ValueFault); 13] = [
-    ("y", "0", ValueFault::UnknownName),
-    ("0", "e1", ValueFault::UnknownName),
-    ("x^1001", "y", ValueFault::ExponentTooLarge),
-    ("y", "x^1001", ValueFault::UnknownName),
-    ("y*x^1001", "0", ValueFault::UnknownName),
-    ("x^1001*y", "0", ValueFault::ExponentTooLarge),
-    ("(0 - y)^1001", "0", ValueFault::UnknownName),
-    ("a^-1", "0", ValueFault::NoInverse),
-    ("a^-1001", "0", ValueFault::ExponentTooLarge),
-    ("(x)^-1", "0", ValueFault::NoInverse),
-    ("2^-1", "0", ValueFault::NoInverse),
+const RELATIONS: [Row; 43] = [
+    ("x*a", "a*x", Some(Ok(&[(4, &[2, 0]), (1, &[0, 2])]))),
+    ("- x + a", "0", Some(Ok(&[(1, &[2]), (4, &[0])]))),
+    ("+ x - a - a", "0", Some(Ok(&[(3, &[2]), (1, &[0])]))),
+    ("-(x + a)*2 + x", "0", Some(Ok(&[(3, &[2]), (4, &[0])]))),
+    ("x^-1", "0", Some(Ok(&[(1, &[1])]))),
+    (
+        "a*x^-2",
+        "x^3",
+        Some(Ok(&[(1, &[2, 1, 1]), (4, &[0, 0, 0])])),
+    ),
+    ("x*a^2", "0", Some(Ok(&[(1, &[0, 2, 2])]))),
+    ("(x + 1)^2", "1", Some(Ok(&[(1, &[0, 0]), (2, &[0])]))),
+    ("2*x - 3", "x", Some(Ok(&[(1, &[0]), (2, &[])]))),
+    (
+        "a - (x - 1)",
+        "0",
+        Some(Ok(&[(1, &[2]), (4, &[0]), (1, &[])])),
+    ),
+    ("x^0 + 7", "3", Some(Ok(&[]))),
+    ("1^1000", "X^-0", Some(Ok(&[]))),
+    ("((x))", "5*a", Some(Ok(&[(1, &[0])]))),
+    ("x", "x", Some(Ok(&[]))),
+    ("y", "0", Some(Err(ValueFault::UnknownName))),
+    ("0", "e1", Some(Err(ValueFault::UnknownName))),
+    ("x^1001", "y", Some(Err(ValueFault::ExponentTooLarge))),
+    ("y", "x^1001", Some(Err(ValueFault::UnknownName))),
+    ("y*x^1001", "0", Some(Err(ValueFault::UnknownName))),
+    ("x^1001*y", "0", Some(Err(ValueFault::ExponentTooLarge))),
+    ("(0 - y)^1001", "0", Some(Err(ValueFault::UnknownName))),
+    ("a^-1", "0", Some(Err(ValueFault::NoInverse))),
+    ("a^-1001", "0", Some(Err(ValueFault::ExponentTooLarge))),
+    ("(x)^-1", "0", Some(Err(ValueFault::NoInverse))),
+    ("2^-1", "0", Some(Err(ValueFault::NoInverse))),
     (
         "a^501*a^500*y",
         "0",
-        ValueFault::Limit(Limit::Length { length: 1001 }),
+        Some(Err(ValueFault::Limit(Limit::Length { length: 1001 }))),
     ),
     (
         "x",
         "a^501*a^500",
-        ValueFault::Limit(Limit::Length { length: 1001 }),
+        Some(Err(ValueFault::Limit(Limit::Length { length: 1001 }))),
     ),
-];
-
-const NO_EXPRESSIONS: [&str; 16] = [
-    "", "+", "x +", "(x", "x)", "()", "x^", "x^-", "x^y", "x x", "x^2^3", "- -x", "x*-x", "x = x",
-    "x(a)", "2 x",
+    ("", "0", None),
+    ("+", "0", None),
+    ("x +", "0", None),
+    ("(x", "0", None),
+    ("x)", "0", None),
+    ("()", "0", None),
+    ("x^", "0", None),
+    ("x^-", "0", None),
+    ("x^y", "0", None),
+    ("x x", "0", None),
+    ("x^2^3", "0", None),
+    ("- -x", "0", None),
+    ("x*-x", "0", None),
+    ("x = x", "0", None),
+    ("x(a)", "0", None),
+    ("2 x", "0", None),
 ];
 
 // The difference, where the sides are expressions.
@@ -75,73 +97,22 @@ fn is(element: &FreeAlg, terms: &[(u8, &[u8])]) -> bool {
         })
 }
 
-fn gives(
-    alloc: Global,
-    presentation: &Presentation,
-    left: &str,
-    right: &str,
-    terms: &[(u8, &[u8])],
-) -> bool {
-    match difference(alloc, presentation, left, right) {
-        Some(Ok(element)) => is(&element, terms),
+// Whether the difference is as the row says.
+fn has_difference(alloc: Global, presentation: &Presentation, row: &Row) -> bool {
+    let (left, right, expected) = row;
+    match (difference(alloc, presentation, left, right), expected) {
+        (None, None) => true,
+        (Some(Ok(element)), Some(Ok(terms))) => is(&element, terms),
+        (Some(Err(fault)), Some(Err(expected))) => fault == *expected,
         _ => false,
     }
 }
 
-fn refuses(
-    alloc: Global,
-    presentation: &Presentation,
-    left: &str,
-    right: &str,
-    fault: ValueFault,
-) -> bool {
-    match difference(alloc, presentation, left, right) {
-        Some(Err(why)) => why == fault,
-        _ => false,
-    }
-}
-
-fn is_no_expression(alloc: Global, text: &str) -> bool {
-    match tokens(alloc, text) {
-        Ok(tokens) => !is_expression(&tokens),
-        Err(_) => false,
-    }
-}
-
 #[test]
-fn accepted(rt: HostRuntime) -> Result<(), Fail> {
-    let alloc = rt.alloc();
-    let Some(presentation) = presentation(alloc) else {
-        panic!(rt; "no presentation");
-    };
-    for (left, right, terms) in &ACCEPTED {
-        assert!(rt;
-            gives(alloc, &presentation, left, right, terms),
-            "{left} = {right}"
-        );
-    }
-    Ok(())
-}
-
-#[test]
-fn refused(rt: HostRuntime) -> Result<(), Fail> {
-    let alloc = rt.alloc();
-    let Some(presentation) = presentation(alloc) else {
-        panic!(rt; "no presentation");
-    };
-    for (left, right, fault) in &REFUSED {
-        assert!(rt;
-            refuses(alloc, &presentation, left, right, *fault),
-            "{left} = {right}"
-        );
-    }
-    Ok(())
-}
-
-#[test]
-fn no_expressions(rt: HostRuntime) -> Result<(), Fail> {
-    for text in &NO_EXPRESSIONS {
-        assert!(rt; is_no_expression(rt.alloc(), text), "{text}");
+fn relations_have_these_differences(rt: HostRuntime) -> Result<(), Fail> {
+    let presentation = presentation(rt.alloc()).ok_or("no presentation")?;
+    for row in &RELATIONS {
+        assert!(rt; has_difference(rt.alloc(), &presentation, row), "{row:?}");
     }
     Ok(())
 }
