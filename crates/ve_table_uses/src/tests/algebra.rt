@@ -1,3 +1,5 @@
+//! Elements and presentations, call by call.
+
 ghost use Rattle.std.specs.Prelude.{ℕ, ◌<◌, IfOk};
 ghost use Rattle.ve_theory.specs.Combinations.{IsReduced};
 ghost use Rattle.ve_theory.specs.Words.{Shortlex, ShortlexLetters};
@@ -10,23 +12,26 @@ use std::alloc::Global;
 use ve_field::Field;
 use ve_pres::{FreeAlg, FreeMod, PresFault};
 
-// Coefficients, each with its letters.
-pub(super) type Terms = &'static [(u8, &'static [u8])];
+/// Terms, each a coefficient and letters, from the greatest word on.
+pub(super) type Element = &'static [(u8, &'static [u8])];
 
-const ZERO: Terms = &[];
+/// An element, raised to a power and multiplied by a power of the first letter.
+type Product = (Element, u32, u32);
 
-const ONE: Terms = &[(1, &[])];
+const ZERO: Element = &[];
 
-const X: Terms = &[(1, &[0])];
+const ONE: Element = &[(1, &[])];
 
-const X_AND_Y: Terms = &[(1, &[1]), (1, &[0])];
+const X: Element = &[(1, &[0])];
 
-// The sum of terms. Letters from `count` on are left out.
+const X_AND_Y: Element = &[(1, &[1]), (1, &[0])];
+
+/// The sum of terms. Letters from `count` on are left out.
 pub(super) fn element_of(
     alloc: Global,
     field: &Field,
     count: u8,
-    terms: Terms,
+    terms: Element,
 ) -> Result<FreeAlg, PresFault>
     ensures reduced { IfOk result (λ r. IsReduced ShortlexLetters field.now r) }
     ensures letters { IfOk result (λ r. HasLettersBelow count r) }
@@ -46,7 +51,22 @@ pub(super) fn element_of(
     Ok(sum)
 }
 
-// The first generator times an element.
+fn product_of(
+    alloc: Global,
+    field: &Field,
+    count: u8,
+    product: Product,
+) -> Result<FreeAlg, PresFault>
+    ensures reduced { IfOk result (λ r. IsReduced ShortlexLetters field.now r) }
+    ensures letters { IfOk result (λ r. HasLettersBelow count r) }
+{
+    let (terms, power, more) = product;
+    let front = element_of(alloc, field, count, terms)?.pow(field, power.min(1000))?;
+    let back = element_of(alloc, field, count, X)?.pow(field, more.min(1000))?;
+    front.mul(field, &back)
+}
+
+/// The first generator times an element.
 fn in_module(alloc: Global, field: &Field, element: &FreeAlg) -> Result<FreeMod, PresFault>
     requires { IsReduced ShortlexLetters field.now element.now }
     ensures reduced { IfOk result (λ v. IsReduced Shortlex field.now v) }
@@ -58,16 +78,16 @@ fn in_module(alloc: Global, field: &Field, element: &FreeAlg) -> Result<FreeMod,
     Ok(product)
 }
 
-// Whether the element has these terms, in this order.
-fn is(element: &FreeAlg, terms: Terms) -> bool {
+/// Whether the element has these terms, in this order.
+pub(super) fn has_terms(element: &FreeAlg, terms: &[(u8, &[u8])]) -> bool {
     element.term_count() == terms.len()
         && (0..element.term_count()).all(|at| {
             (element.coef_at(at), element.word_at(at).as_slice()) == terms[at]
         })
 }
 
-// Whether the element has these terms, in this order, with words of the first generator.
-fn is_in_module(element: &FreeMod, terms: Terms) -> bool {
+/// Whether the element has these terms, in this order, with words of the first generator.
+fn has_terms_in_module(element: &FreeMod, terms: Element) -> bool {
     element.term_count() == terms.len()
         && (0..element.term_count()).all(|at| {
             let word = element.word_at(at);

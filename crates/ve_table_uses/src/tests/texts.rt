@@ -5,9 +5,10 @@ mod cut;
 mod large;
 mod refused;
 
+use super::algebra::{Element, has_terms};
 use std::alloc::Global;
 use std::test::Fail;
-use ve_pres::{FreeAlg, FreeMod, Presentation};
+use ve_pres::{FreeMod, Presentation};
 use ve_read::read;
 
 /// A text, and the presentation that it spells.
@@ -19,8 +20,8 @@ struct Case {
     shape: [u32; 7],
     // The name of each letter, its inverse and its weight.
     letters: &'static [(&'static str, Option<u8>, u8)],
-    // The other relators: coefficients and letters of their terms.
-    relators: &'static [&'static [(u8, &'static [u8])]],
+    // The other relators.
+    relators: &'static [Element],
     // The submodule relations: coefficients, generators and letters.
     submodule: &'static [&'static [(u8, u8, &'static [u8])]],
 }
@@ -67,13 +68,6 @@ fn has_relators(p: &Presentation, relators: &[&[(u8, &[u8])]]) -> bool {
         return false;
     }
     relators.iter().enumerate().all(|(at, terms)| has_terms(p.relator(first + at as u32), terms))
-}
-
-fn has_terms(element: &FreeAlg, terms: &[(u8, &[u8])]) -> bool {
-    element.term_count() == terms.len()
-        && (0..element.term_count()).all(|at| {
-            element.coef_at(at) == terms[at].0 && element.word_at(at).as_slice() == terms[at].1
-        })
 }
 
 fn has_submodule_relations(p: &Presentation, relations: &[&[(u8, u8, &[u8])]]) -> bool {

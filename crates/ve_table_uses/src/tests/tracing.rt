@@ -2,23 +2,21 @@
 
 ghost use Rattle.std.specs.Prelude.{◌<◌, All, IfOk};
 ghost use Rattle.ve_theory.specs.Combinations.{IsReduced};
-ghost use Rattle.ve_theory.specs.Words.{Shortlex, ShortlexLetters};
+ghost use Rattle.ve_theory.specs.Words.{Shortlex};
 
-use super::algebra::{Terms as Element, element_of};
-use super::vectors::vector_of;
-use super::{Terms, is_vector};
+use super::algebra::{Element, element_of};
 use std::alloc::Global;
 use std::test::Fail;
 use ve_field::Field;
-use ve_pres::{FreeAlg, FreeMod, PresFault};
+use ve_pres::{FreeMod, PresFault};
 use ve_trace::{trace_relator, trace_sub, trace_word};
-use ve_vec::{Rows, Sparse};
+use ve_vec::{Rows, Sparse, Term};
 use ve_word::Memory;
 
-/// How many letters there are.
-const LETTERS: usize = 2;
+/// How many ids there are.
+const IDS: usize = 1_000;
 
-/// A table with the rows of the first ids, letter by letter. All others are zero.
+/// A table with the rows of the ids, letter by letter. Those that are missing are zero.
 #[derive(Drop)]
 struct Grid {
     rows: Vec<Sparse>,
@@ -27,12 +25,12 @@ struct Grid {
 
 impl Rows for Grid {
     ghost use Rattle.std.specs.Prelude.{Some, slice_index_or, ◌+◌, ◌*◌};
-    ghost use Rattle.ve_table_uses.specs.declared.tests.tracing.TheConstants.{LETTERS};
+    ghost use Rattle.ve_table_uses.specs.declared.tests.tracing.TheConstants.{IDS};
 
-    ghost rows = { λ grid id letter. Some (slice_index_or grid.rows.items (id * LETTERS + letter) grid.zero) };
+    ghost rows = { λ grid id letter. Some (slice_index_or grid.rows.items (id + letter * IDS) grid.zero) };
 
     fn row(&self, id: u32, letter: u8) -> Option<&Sparse> {
-        let place = id as usize * LETTERS + usize::from(letter);
+        let place = id as usize + usize::from(letter) * IDS;
         match self.rows.get(place) {
             Some(row) => Some(row),
             None => Some(&self.zero),
@@ -40,25 +38,146 @@ impl Rows for Grid {
     }
 }
 
-fn vectors(alloc: Global, field: &Field, all: &[&[(u32, u8)]]) -> Result<Vec<Sparse>, Memory>
-    ensures { IfOk result (λ vs. All (IsReduced ◌<◌ field.now) vs.items) }
-{
-    let mut vs = Vec::new(alloc);
-    for terms in all {
-        vs.push(vector_of(alloc, field, terms)?)?;
-    }
-    Ok(vs)
+/// What is traced.
+enum Trace {
+    /// The sum of these ids, along letters.
+    Word(&'static [u8], &'static [u8]),
+    /// A relator, at the id 0.
+    Relator(Element),
+    /// A relation between the ids 0 and 1 as generators.
+    Relation(&'static [(u8, Element)]),
 }
 
-/// The table of these rows.
-fn table_of(alloc: Global, field: &Field, rows: &[&[(u32, u8)]]) -> Result<Grid, Memory>
-    ensures rows { IfOk result (λ grid. All (IsReduced ◌<◌ field.now) grid.rows.items) }
-    ensures zero { IfOk result (λ grid. IsReduced ◌<◌ field.now grid.zero) }
-{
-    Ok(Grid {
-        rows: vectors(alloc, field, rows)?,
+/// A table modulo a prime in which the first letter takes each of the ids below a count to the sum of those so far above it,
+/// and all others to zero. What is traced has these coefficients at the ids from 0 on, and no others.
+struct Case {
+    prime: u64,
+    count: u8,
+    above: &'static [u8],
+    trace: Trace,
+    coefs: &'static [u8],
+}
+
+const CASES: &[Case] = &[
+    // The ids are the words e1, e1*x and e1*x*x.
+    Case {
+        prime: 2,
+        count: 2,
+        above: &[1],
+        trace: Trace::Word(&[0], &[]),
+        coefs: &[1],
+    },
+    Case {
+        prime: 2,
+        count: 2,
+        above: &[1],
+        trace: Trace::Word(&[0], &[0]),
+        coefs: &[0, 1],
+    },
+    Case {
+        prime: 2,
+        count: 2,
+        above: &[1],
+        trace: Trace::Word(&[0], &[0, 0]),
+        coefs: &[0, 0, 1],
+    },
+    Case {
+        prime: 2,
+        count: 2,
+        above: &[1],
+        trace: Trace::Relator(&[(1, &[0, 0]), (1, &[])]),
+        coefs: &[1, 0, 1],
+    },
+    // The ids are the words e1, e2, e1*x and e2*x, and the relation is e2 - e1*x.
+    Case {
+        prime: 3,
+        count: 2,
+        above: &[2],
+        trace: Trace::Relation(&[(0, &[(2, &[0])]), (1, &[(1, &[])])]),
+        coefs: &[0, 1, 2],
+    },
+    // A relator of more words than are traced each by itself.
+    Case {
+        prime: 3,
+        count: 10,
+        above: &[2, 1],
+        trace: Trace::Relator(&[
+            (1, &[0, 0, 0, 0]),
+            (1, &[0, 0, 0]),
+            (1, &[0, 0]),
+            (1, &[0]),
+            (1, &[]),
+        ]),
+        coefs: &[1, 1, 2, 0, 2, 1, 1, 1, 1],
+    },
+    // Of forty rows that overlap, halves are added up first.
+    Case {
+        prime: 3,
+        count: 40,
+        above: &[2, 1],
+        trace: Trace::Word(
+            &[
+                0, 1, 2, 3, 4, 5, 6, 7, 8, 9, 10, 11, 12, 13, 14, 15, 16, 17, 18, 19, 20, 21, 22,
+                23, 24, 25, 26, 27, 28, 29, 30, 31, 32, 33, 34, 35, 36, 37, 38, 39,
+            ],
+            &[0],
+        ),
+        coefs: &[
+            0, 1, 2, 2, 2, 2, 2, 2, 2, 2, 2, 2, 2, 2, 2, 2, 2, 2, 2, 2, 2, 2, 2, 2, 2, 2, 2, 2, 2,
+            2, 2, 2, 2, 2, 2, 2, 2, 2, 2, 2, 2, 1, 0,
+        ],
+    },
+];
+
+#[test]
+fn traces_have_these_coefficients(rt: HostRuntime) -> Result<(), Fail> {
+    for (at, case) in CASES.iter().enumerate() {
+        assert!(rt; passes(rt.alloc(), case)?, "at {at}");
+    }
+    Ok(())
+}
+
+fn passes(alloc: Global, case: &Case) -> Result<bool, PresFault> {
+    let Some(field) = Field::new(case.prime) else {
+        return Ok(false);
+    };
+    let grid = Grid {
+        rows: sums_above(alloc, &field, case.count, case.above)?,
         zero: Sparse::zero(alloc),
-    })
+    };
+    match case.trace {
+        Trace::Word(start, letters) => traces_word(
+            alloc, &field, &grid, start, letters, case.coefs,
+        ),
+        Trace::Relator(relator) => traces_relator(alloc, &field, &grid, relator, case.coefs),
+        Trace::Relation(parts) => traces_relation(alloc, &field, &grid, parts, case.coefs),
+    }
+}
+
+/// For each id below the count, the sum of the ids that are so far above it.
+fn sums_above(alloc: Global, field: &Field, count: u8, above: &[u8]) -> Result<Vec<Sparse>, Memory>
+    ensures { IfOk result (λ rows. All (IsReduced ◌<◌ field.now) rows.items) }
+{
+    let mut rows = Vec::new(alloc);
+    for id in 0..count {
+        rows.push(sum_above(alloc, field, id, above)?)?;
+    }
+    Ok(rows)
+}
+
+fn sum_above(alloc: Global, field: &Field, id: u8, above: &[u8]) -> Result<Sparse, Memory>
+    ensures { IfOk result (λ v. IsReduced ◌<◌ field.now v) }
+{
+    field.has_prime();
+    let mut sum = Sparse::zero(alloc);
+    for distance in above {
+        let term = Term {
+            id: u32::from(id) + u32::from(*distance),
+            coef: 1,
+        };
+        sum.add_scaled_term(field, 1, term)?;
+    }
+    Ok(sum)
 }
 
 /// The sum of generators, each times an element of the algebra.
@@ -72,168 +191,64 @@ fn module_element(
     field.has_prime();
     let mut sum = FreeMod::zero(alloc);
     for (root, terms) in parts {
-        let element = element_of(alloc, field, LETTERS as u8, terms)?;
+        let element = element_of(alloc, field, 2, terms)?;
         let part = FreeMod::root(alloc, *root)?.times(field, &element)?;
         sum = sum.add(field, &part)?;
     }
     Ok(sum)
 }
 
-fn traced_word(
+fn traces_word(
     alloc: Global,
     field: &Field,
     grid: &Grid,
-    start: &Sparse,
+    start: &[u8],
     letters: &[u8],
-) -> Result<Sparse, Memory>
+    coefs: &[u8],
+) -> Result<bool, PresFault>
     requires rows { All (IsReduced ◌<◌ field.now) grid.now.rows.items }
     requires zero { IsReduced ◌<◌ field.now grid.now.zero }
-    requires start { IsReduced ◌<◌ field.now start.now }
 {
-    trace_word(alloc, grid, field, start, letters)
+    let sum = sum_above(alloc, field, 0, start)?;
+    let traced = trace_word(alloc, grid, field, &sum, letters)?;
+    Ok(has_coefs(&traced, coefs))
 }
 
-fn traced_relator(
+fn traces_relator(
     alloc: Global,
     field: &Field,
     grid: &Grid,
-    id: u32,
-    relator: &FreeAlg,
-) -> Result<Sparse, Memory>
+    terms: Element,
+    coefs: &[u8],
+) -> Result<bool, PresFault>
     requires rows { All (IsReduced ◌<◌ field.now) grid.now.rows.items }
     requires zero { IsReduced ◌<◌ field.now grid.now.zero }
-    requires residues { IsReduced ShortlexLetters field.now relator.now }
 {
-    trace_relator(alloc, grid, field, id, relator)
+    let relator = element_of(alloc, field, 2, terms)?;
+    let traced = trace_relator(alloc, grid, field, 0, &relator)?;
+    Ok(has_coefs(&traced, coefs))
 }
 
-fn traced_relation(
+fn traces_relation(
     alloc: Global,
     field: &Field,
     grid: &Grid,
-    images: &Vec<Sparse>,
-    relation: &FreeMod,
-) -> Result<Sparse, Memory>
+    parts: &[(u8, Element)],
+    coefs: &[u8],
+) -> Result<bool, PresFault>
     requires rows { All (IsReduced ◌<◌ field.now) grid.now.rows.items }
     requires zero { IsReduced ◌<◌ field.now grid.now.zero }
-    requires images { All (IsReduced ◌<◌ field.now) images.now.items }
-    requires residues { IsReduced Shortlex field.now relation.now }
 {
-    trace_sub(alloc, grid, field, images, relation)
+    let images = sums_above(alloc, field, 2, &[0])?;
+    let relation = module_element(alloc, field, parts)?;
+    let traced = trace_sub(alloc, grid, field, &images, &relation)?;
+    Ok(has_coefs(&traced, coefs))
 }
 
-/// The ids that letters lead to from the id 0.
-const WORDS: &[(&[u8], u32)] = &[(&[], 0), (&[0], 1), (&[0, 0], 2)];
-
-/// `e1*x` and `e1*x*x` are the ids 1 and 2, and `x*x - 1` is a relator.
-#[test]
-fn two_cycle_table(rt: HostRuntime) -> Result<(), Fail> {
-    let alloc = rt.alloc();
-    let Some(field) = Field::new(2) else {
-        panic!(rt; "2 is a prime");
-    };
-    let grid = table_of(alloc, &field, &[&[(1, 1)], &[], &[(2, 1)]])?;
-    let start = vector_of(alloc, &field, &[(0, 1)])?;
-    for (letters, id) in WORDS {
-        let traced = traced_word(alloc, &field, &grid, &start, letters)?;
-        assert!(rt; is_vector(&traced, &[(*id, 1)]), "at {id}");
-    }
-    let relator = element_of(alloc, &field, 2, &[(1, &[0, 0]), (1, &[])])?;
-    let traced = traced_relator(alloc, &field, &grid, 0, &relator)?;
-    assert!(rt; is_vector(&traced, &[(2, 1), (0, 1)]));
-    Ok(())
-}
-
-/// The generators `e1` and `e2` are the ids 0 and 1, and `e1*x` is 2. The relation is `e2 - e1*x`.
-#[test]
-fn tied_generators_traced(rt: HostRuntime) -> Result<(), Fail> {
-    let alloc = rt.alloc();
-    let Some(field) = Field::new(3) else {
-        panic!(rt; "3 is a prime");
-    };
-    let grid = table_of(alloc, &field, &[&[(2, 1)], &[], &[(3, 1)]])?;
-    let images = vectors(alloc, &field, &[&[(0, 1)], &[(1, 1)]])?;
-    let relation = module_element(alloc, &field, &[(0, &[(2, &[0])]), (1, &[(1, &[])])])?;
-    let traced = traced_relation(alloc, &field, &grid, &images, &relation)?;
-    assert!(rt; is_vector(&traced, &[(2, 2), (1, 1)]));
-    Ok(())
-}
-
-/// Ones at the ids below `count`.
-fn ones(alloc: Global, field: &Field, count: u32) -> Result<Sparse, Memory>
-    ensures { IfOk result (λ v. IsReduced ◌<◌ field.now v) }
-{
-    field.has_prime();
-    let mut v = Sparse::zero(alloc);
-    for id in 0..count {
-        v.add_scaled(field, 1, &Sparse::unit(alloc, id))?;
-    }
-    Ok(v)
-}
-
-/// The table in which each id `b` below `count` has the row of ones at `b + 1` and `b + 2` at the first letter.
-fn stairs(alloc: Global, field: &Field, count: u32) -> Result<Grid, Memory>
-    requires { count < 1000 }
-    ensures rows { IfOk result (λ grid. All (IsReduced ◌<◌ field.now) grid.rows.items) }
-    ensures zero { IfOk result (λ grid. IsReduced ◌<◌ field.now grid.zero) }
-{
-    let mut rows = Vec::new(alloc);
-    for id in 0..count {
-        rows.push(vector_of(alloc, field, &[(id + 2, 1), (id + 1, 1)])?)?;
-        rows.push(Sparse::zero(alloc))?;
-    }
-    let zero = Sparse::zero(alloc);
-    Ok(Grid { rows, zero })
-}
-
-/// `x^4 + x^3 + x^2 + x + 1` is a relator of more words than are traced each by itself.
-#[test]
-fn long_relator_traced(rt: HostRuntime) -> Result<(), Fail> {
-    let alloc = rt.alloc();
-    let Some(field) = Field::new(3) else {
-        panic!(rt; "3 is a prime");
-    };
-    let grid = stairs(alloc, &field, 10)?;
-    let terms: Element = &[
-        (1, &[0, 0, 0, 0]),
-        (1, &[0, 0, 0]),
-        (1, &[0, 0]),
-        (1, &[0]),
-        (1, &[]),
-    ];
-    let relator = element_of(alloc, &field, 2, terms)?;
-    let traced = traced_relator(alloc, &field, &grid, 0, &relator)?;
-    let sum = [
-        (8, 1),
-        (7, 1),
-        (6, 1),
-        (5, 1),
-        (4, 2),
-        (2, 2),
-        (1, 1),
-        (0, 1),
-    ];
-    assert!(rt; is_vector(&traced, &sum));
-    Ok(())
-}
-
-/// Of forty rows that overlap, halves are added up first.
-#[test]
-fn wide_vector_traced(rt: HostRuntime) -> Result<(), Fail> {
-    let alloc = rt.alloc();
-    let Some(field) = Field::new(3) else {
-        panic!(rt; "3 is a prime");
-    };
-    let grid = stairs(alloc, &field, 40)?;
-    let start = ones(alloc, &field, 40)?;
-    let traced = traced_word(alloc, &field, &grid, &start, &[0])?;
-    for id in 0..43 {
-        let wanted = match id {
-            1 | 41 => 1,
-            2..=40 => 2,
-            _ => 0,
-        };
-        assert_eq!(rt; traced.coef_of(id), wanted, "at {id}");
-    }
-    Ok(())
+fn has_coefs(vector: &Sparse, coefs: &[u8]) -> bool {
+    vector.len() == coefs.iter().filter(|coef| **coef != 0).count()
+        && coefs.iter().enumerate().all(|(id, coef)| match u32::try_from(id) {
+            Ok(id) => vector.coef_of(id) == *coef,
+            Err(_) => false,
+        })
 }

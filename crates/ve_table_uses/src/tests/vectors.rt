@@ -1,10 +1,10 @@
 //! Vectors, call by call.
 
-ghost use Rattle.std.specs.Prelude.{◌≡◌, ◌<◌, All, IfOk, IsTrue, length};
+ghost use Rattle.std.specs.Prelude.{◌≡◌, ◌<◌, All, IsTrue, length};
 ghost use Rattle.ve_theory.specs.Combinations.{IsReduced};
 ghost use Rattle.ve_vec.specs.Vectors.{numbered};
 
-use super::{Terms, is_vector};
+use super::terms::{Terms, has_row, is_vector, vector_of};
 use std::alloc::Global;
 use std::test::Fail;
 use ve_field::Field;
@@ -12,6 +12,7 @@ use ve_vec::{DenseSum, Rows, Sparse, Term};
 use ve_word::Memory;
 
 /// A call on a vector, and the terms that it has to leave.
+#[derive(Clone, Copy)]
 enum Step {
     /// `add_scaled` of a number and a vector.
     Add(u8, Terms, Terms),
@@ -22,10 +23,16 @@ enum Step {
     Copy(Terms),
     Rest(usize, Terms),
     TakeLeading(Terms),
+    /// `renumber` by a number for each id.
+    Renumber(&'static [u32], Terms),
+    /// The units at 3, 5 and 7, each times a number, summed over a span; the vector stays.
+    Span([u8; 3], Terms),
+    /// The row of an id at a letter, where the vector is the one row that there is.
+    Row(u32, u8, Option<Terms>),
 }
 
 // One step after another on the zero vector, modulo 5.
-const STEPS: [Step; 34] = [
+const STEPS: &[Step] = &[
     // Up to two terms and back.
     Step::AddTerm(1, (3, 1), &[(3, 1)]),
     Step::AddTerm(2, (3, 2), &[]),
@@ -67,41 +74,59 @@ const STEPS: [Step; 34] = [
     Step::Substitute(8, &[(6, 1), (5, 1)], &[(9, 2), (6, 1), (5, 1)]),
     Step::Substitute(9, &[(6, 2)], &[(5, 1)]),
     Step::Scale(0, &[]),
+    // Each id has its number.
+    Step::Add(1, &[(2, 1)], &[(2, 1)]),
+    Step::Renumber(&[4, 0, 1], &[(1, 1)]),
+    Step::Scale(0, &[]),
+    Step::Add(1, &[(5, 2), (3, 4), (1, 1)], &[(5, 2), (3, 4), (1, 1)]),
+    Step::Renumber(&[9, 0, 9, 1, 9, 2], &[(2, 2), (1, 4), (0, 1)]),
+    Step::Scale(0, &[]),
+    Step::Add(
+        1,
+        &[(4, 1), (3, 2), (2, 3), (0, 4)],
+        &[(4, 1), (3, 2), (2, 3), (0, 4)],
+    ),
+    Step::Renumber(&[0, 9, 2, 6, 7], &[(7, 1), (6, 2), (2, 3), (0, 4)]),
+    Step::Span([2, 4, 3], &[(7, 3), (5, 4), (3, 2)]),
+    Step::Span([0, 9, 5], &[(5, 4)]),
+    Step::Scale(0, &[]),
+    Step::Add(1, &[(4, 1)], &[(4, 1)]),
+    Step::Row(3, 1, Some(&[(4, 1)])),
+    Step::Row(3, 0, None),
+    Step::Row(1, 3, None),
 ];
 
 #[test]
-fn goes_step_by_step(rt: HostRuntime) -> Result<(), Fail> {
-    let alloc = rt.alloc();
-    let field = five()?;
-    let mut v = Sparse::zero(alloc);
+fn vectors_take_these_steps(rt: HostRuntime) -> Result<(), Fail> {
+    let field = Field::new(5).ok_or("no field")?;
+    let mut v = Sparse::zero(rt.alloc());
     for (at, step) in STEPS.iter().enumerate() {
-        assert!(rt; passes(alloc, &field, &mut v, step)?, "at {at}");
+        assert!(rt; passes(rt.alloc(), &field, &mut v, step)?, "at {at}");
     }
     Ok(())
-}
-
-fn five() -> Result<Field, Memory> {
-    Field::new(5).ok_or(Memory)
 }
 
 fn passes(alloc: Global, field: &Field, v: &mut Sparse, step: &Step) -> Result<bool, Memory> {
     if !v.fits(field) {
         return Ok(false);
     }
-    match step {
-        Step::Add(by, other, wanted) => adds(alloc, field, v, *by, other, wanted),
-        Step::AddTerm(by, term, wanted) => adds_term(field, v, *by, *term, wanted),
-        Step::Substitute(dead, by, wanted) => substitutes(alloc, field, v, *dead, by, wanted),
+    match *step {
+        Step::Add(by, other, wanted) => adds(alloc, field, v, by, other, wanted),
+        Step::AddTerm(by, term, wanted) => adds_term(field, v, by, term, wanted),
+        Step::Substitute(dead, by, wanted) => substitutes(alloc, field, v, dead, by, wanted),
         Step::Scale(by, wanted) => {
-            v.scale(field, field.reduce(u128::from(*by)));
+            v.scale(field, field.reduce(u128::from(by)));
             Ok(is_vector(v, wanted))
         }
         Step::Copy(wanted) => Ok(is_vector(&v.copy()?, wanted)),
-        Step::Rest(from, wanted) => keeps_rest(v, *from, wanted),
+        Step::Rest(from, wanted) => keeps_rest(v, from, wanted),
         Step::TakeLeading(wanted) => {
             let leading = v.leading();
             Ok(v.take_leading() == leading && is_vector(v, wanted))
         }
+        Step::Renumber(numbers, wanted) => renumbers(alloc, field, v, numbers, wanted),
+        Step::Span(by, wanted) => Ok(is_vector(&sum_of_units(alloc, field, by)?, wanted)),
+        Step::Row(id, letter, row) => is_only_row(v, id, letter, row),
     }
 }
 
@@ -110,8 +135,8 @@ fn adds(
     field: &Field,
     v: &mut Sparse,
     by: u8,
-    other: &[(u32, u8)],
-    wanted: &[(u32, u8)],
+    other: Terms,
+    wanted: Terms,
 ) -> Result<bool, Memory>
     requires { IsReduced ◌<◌ field.now v.old }
 {
@@ -125,12 +150,13 @@ fn adds_term(
     v: &mut Sparse,
     by: u8,
     term: (u32, u8),
-    wanted: &[(u32, u8)],
+    wanted: Terms,
 ) -> Result<bool, Memory>
     requires { IsReduced ◌<◌ field.now v.old }
 {
-    let by = field.reduce(u128::from(by));
-    v.add_scaled_term(field, by, term_of(field, term))?;
+    let (id, coef) = term;
+    let coef = field.reduce(u128::from(coef));
+    v.add_scaled_term(field, field.reduce(u128::from(by)), Term { id, coef })?;
     Ok(is_vector(v, wanted))
 }
 
@@ -139,8 +165,8 @@ fn substitutes(
     field: &Field,
     v: &mut Sparse,
     dead: u32,
-    by: &[(u32, u8)],
-    wanted: &[(u32, u8)],
+    by: Terms,
+    wanted: Terms,
 ) -> Result<bool, Memory>
     requires { IsReduced ◌<◌ field.now v.old }
 {
@@ -149,7 +175,7 @@ fn substitutes(
     Ok(is_vector(v, wanted))
 }
 
-fn keeps_rest(v: &mut Sparse, from: usize, wanted: &[(u32, u8)]) -> Result<bool, Memory> {
+fn keeps_rest(v: &mut Sparse, from: usize, wanted: Terms) -> Result<bool, Memory> {
     if from > v.len() {
         return Ok(false);
     }
@@ -157,87 +183,20 @@ fn keeps_rest(v: &mut Sparse, from: usize, wanted: &[(u32, u8)]) -> Result<bool,
     Ok(is_vector(v, wanted))
 }
 
-/// The sum of the terms.
-pub(super) fn vector_of(alloc: Global, field: &Field, terms: &[(u32, u8)]) -> Result<Sparse, Memory>
-    ensures { IfOk result (λ v. IsReduced ◌<◌ field.now v) }
-{
-    field.has_prime();
-    let mut sum = Sparse::zero(alloc);
-    for term in terms {
-        sum.add_scaled_term(field, 1, term_of(field, *term))?;
-    }
-    Ok(sum)
-}
-
-/// The term, with its coefficient reduced.
-fn term_of(field: &Field, term: (u32, u8)) -> Term
-    ensures { result.coef < field.now }
-{
-    let (id, coef) = term;
-    Term {
-        id,
-        coef: field.reduce(u128::from(coef)),
-    }
-}
-
-#[test]
-fn sums_over_a_span(rt: HostRuntime) -> Result<(), Fail> {
-    let alloc = rt.alloc();
-    let field = five()?;
-    assert!(rt;
-        is_vector(
-            &sum_of_units(alloc, &field, [2, 4, 3])?,
-            &[(7, 3), (5, 4), (3, 2)]
-        )
-    );
-    assert!(rt; is_vector(&sum_of_units(alloc, &field, [0, 9, 5])?, &[(5, 4)]));
-    Ok(())
-}
-
-/// The sum of the units at 3, 5 and 7, each times a number.
-fn sum_of_units(alloc: Global, field: &Field, by: [u8; 3]) -> Result<Sparse, Memory> {
-    let mut sum = DenseSum::new(alloc, 2, 7)?;
-    sum.add_scaled(field, by[0], &Sparse::unit(alloc, 3));
-    sum.add_scaled(field, by[1], &Sparse::unit(alloc, 5));
-    sum.add_scaled(field, by[2], &Sparse::unit(alloc, 7));
-    sum.into_sparse(field)
-}
-
-/// A vector, a number for each id, and the vector of the numbers.
-const NUMBERINGS: [(Terms, &[u32], Terms); 3] = [
-    (&[(2, 1)], &[4, 0, 1], &[(1, 1)]),
-    (
-        &[(5, 2), (3, 4), (1, 1)],
-        &[9, 0, 9, 1, 9, 2],
-        &[(2, 2), (1, 4), (0, 1)],
-    ),
-    (
-        &[(4, 1), (3, 2), (2, 3), (0, 4)],
-        &[0, 9, 2, 6, 7],
-        &[(7, 1), (6, 2), (2, 3), (0, 4)],
-    ),
-];
-
-#[test]
-fn renumbers(rt: HostRuntime) -> Result<(), Fail> {
-    let alloc = rt.alloc();
-    let field = five()?;
-    for (terms, numbers, wanted) in NUMBERINGS {
-        let mut v = vector_of(alloc, &field, terms)?;
-        let other = vector_of(alloc, &field, wanted)?;
-        assert!(rt; renumbers_to(&field, &mut v, numbers, &other));
-        assert!(rt; is_vector(&v, wanted));
-    }
-    Ok(())
-}
-
-/// Renumbers, where the other vector has the numbers of the ids.
-fn renumbers_to(field: &Field, v: &mut Sparse, numbers: &[u32], other: &Sparse) -> bool {
-    if !other.fits(field) || !has_numbers(other, v, numbers) {
-        return false;
+/// Renumbers, where the wanted vector has the numbers of the ids.
+fn renumbers(
+    alloc: Global,
+    field: &Field,
+    v: &mut Sparse,
+    numbers: &[u32],
+    wanted: Terms,
+) -> Result<bool, Memory> {
+    let other = vector_of(alloc, field, wanted)?;
+    if !has_numbers(&other, v, numbers) {
+        return Ok(false);
     }
     v.renumber(numbers);
-    true
+    Ok(is_vector(v, wanted))
 }
 
 /// Whether the vector is the other one with the number of each id in its place.
@@ -258,6 +217,15 @@ fn has_numbers(v: &Sparse, other: &Sparse, numbers: &[u32]) -> bool
         }
     }
     true
+}
+
+/// The sum of the units at 3, 5 and 7, each times a number.
+fn sum_of_units(alloc: Global, field: &Field, by: [u8; 3]) -> Result<Sparse, Memory> {
+    let mut sum = DenseSum::new(alloc, 2, 7)?;
+    sum.add_scaled(field, by[0], &Sparse::unit(alloc, 3));
+    sum.add_scaled(field, by[1], &Sparse::unit(alloc, 5));
+    sum.add_scaled(field, by[2], &Sparse::unit(alloc, 7));
+    sum.into_sparse(field)
 }
 
 /// A table with one row.
@@ -282,17 +250,11 @@ impl Rows for OneRow {
     }
 }
 
-fn has_row(rows: &impl Rows, id: u32, letter: u8) -> bool {
-    rows.row(id, letter).is_some()
-}
-
-#[test]
-fn reads_a_row(rt: HostRuntime) -> Result<(), Fail> {
+fn is_only_row(vector: &Sparse, id: u32, letter: u8, row: Option<Terms>) -> Result<bool, Memory> {
     let table = OneRow {
         id: 3,
         letter: 1,
-        vector: Sparse::unit(rt.alloc(), 4),
+        vector: vector.copy()?,
     };
-    assert!(rt; has_row(&table, 3, 1) && !has_row(&table, 3, 0) && !has_row(&table, 1, 3));
-    Ok(())
+    Ok(has_row(&table, id, letter, row))
 }

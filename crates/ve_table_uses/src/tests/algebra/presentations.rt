@@ -1,15 +1,16 @@
-ghost use Rattle.std.specs.Prelude.{◌≡◌, ◌<◌, All, IfOk};
-ghost use Rattle.ve_theory.specs.Combinations.{IsReduced};
-ghost use Rattle.ve_theory.specs.Words.{ShortlexLetters};
-ghost use Rattle.ve_pres.specs.Drafts.{IsOpen};
-ghost use Rattle.ve_pres.specs.Terms.{HasLettersBelow};
+//! Letters and relations of presentations.
 
-use super::elements::limit_of;
-use super::{ONE, Terms, X, X_AND_Y, ZERO, element_of, in_module, is, is_in_module};
+ghost use Rattle.std.specs.Prelude.{◌≡◌};
+ghost use Rattle.ve_pres.specs.Drafts.{IsOpen};
+
+use super::{
+    Element, ONE, Product, X_AND_Y, ZERO, element_of, has_terms, has_terms_in_module, in_module,
+    product_of,
+};
 use std::alloc::Global;
 use std::test::Fail;
 use ve_field::Field;
-use ve_pres::{FreeAlg, Limit, PresFault, Presentation};
+use ve_pres::{Limit, PresFault, Presentation};
 use ve_word::NameFault;
 
 // Tries to add letters. Those that stand are x with the inverse X, then a and b, which are their own inverses, and c.
@@ -42,6 +43,7 @@ const ANSWERS: [Result<u8, NameFault>; 7] = [
 #[test]
 fn letters_have_these_answers(rt: HostRuntime) -> Result<(), Fail> {
     let field = Field::new(2).ok_or("no field")?;
+    assert!(rt; weights_stand(rt.alloc(), field)?);
     let mut p = Presentation::new(rt.alloc(), field);
     assert!(rt; add_letters(&mut p) == ANSWERS);
     assert!(rt; p.names().count() == 5 && p.names().find("y").is_none());
@@ -61,156 +63,177 @@ fn weights_stand(alloc: Global, field: Field) -> Result<bool, NameFault> {
     Ok(p.weight_of(0) == 3 && p.weight_of(1) == 1 && p.greatest_weight() == 3 && p.d() == 3)
 }
 
-#[test]
-fn letters_have_weights(rt: HostRuntime) -> Result<(), Fail> {
-    let field = Field::new(2).ok_or("no field")?;
-    assert!(rt; weights_stand(rt.alloc(), field)?);
-    Ok(())
+/// Where an element is a relation: in the algebra, or behind the first generator in the module.
+#[derive(Clone, Copy)]
+enum Place {
+    Algebra,
+    Module,
 }
 
-fn balanced(alloc: Global, field: Field) -> Presentation {
-    let mut p = Presentation::weighted(alloc, field);
-    p.balance();
-    let _answers = add_letters(&mut p);
-    p
+/// A call on a presentation, and what it has to answer.
+#[derive(Clone, Copy)]
+enum Step {
+    /// A relation is added, so many times.
+    Relate(Place, Product, u32, Result<(), PresFault>),
+    /// A relation and its half.
+    Half(Element, Element),
+    /// The presentation and its copy are those of `are_cosets`.
+    AreCosets,
 }
 
-const BRAID: Terms = &[(1, &[2, 3, 2, 3, 2, 3]), (2, &[])];
+// Steps on balanced presentations modulo 3.
+const CASES: [&[Step]; 5] = [HALVES, COSETS, CELLS, MODULE_CELLS, RELATIONS];
 
-const HALF_BRAID: Terms = &[(2, &[3, 2, 3]), (1, &[2, 3, 2])];
+const BRAID: Element = &[(1, &[2, 3, 2, 3, 2, 3]), (2, &[])];
 
-// Relations modulo 3 with their halves.
-const HALVES: [(Terms, Terms); 9] = [
-    (BRAID, HALF_BRAID),
-    (HALF_BRAID, HALF_BRAID),
-    (&[(1, &[0, 0, 0]), (2, &[])], &[(1, &[0, 0]), (2, &[1])]),
-    (&[(1, &[4, 0, 2]), (1, &[3])], &[(1, &[4, 0]), (1, &[3, 2])]),
+const HALF_BRAID: Element = &[(2, &[3, 2, 3]), (1, &[2, 3, 2])];
+
+const HALVES: &[Step] = &[
+    Step::Half(BRAID, HALF_BRAID),
+    Step::Half(HALF_BRAID, HALF_BRAID),
+    Step::Half(&[(1, &[0, 0, 0]), (2, &[])], &[(1, &[0, 0]), (2, &[1])]),
+    Step::Half(&[(1, &[4, 0, 2]), (1, &[3])], &[(1, &[4, 0]), (1, &[3, 2])]),
     // The letters that change sides stand in reversed order.
-    (
+    Step::Half(
         &[(1, &[4, 4, 0, 2]), (2, &[])],
         &[(1, &[4, 4]), (2, &[2, 1])],
     ),
     // Both words of the half are equal.
-    (&[(1, &[2, 2]), (1, &[])], &[(2, &[2])]),
-    (&[(1, &[2, 2]), (2, &[])], ZERO),
+    Step::Half(&[(1, &[2, 2]), (1, &[])], &[(2, &[2])]),
+    Step::Half(&[(1, &[2, 2]), (2, &[])], ZERO),
     // There is no half: c has no inverse, and three terms are no relation between two words.
-    (&[(1, &[2, 4]), (2, &[])], &[(1, &[2, 4]), (2, &[])]),
-    (
+    Step::Half(&[(1, &[2, 4]), (2, &[])], &[(1, &[2, 4]), (2, &[])]),
+    Step::Half(
         &[(1, &[2, 2]), (1, &[2]), (2, &[])],
         &[(1, &[2, 2]), (1, &[2]), (2, &[])],
     ),
 ];
 
-fn half_of(alloc: Global, p: &Presentation, terms: Terms) -> Result<FreeAlg, PresFault> {
-    let element = element_of(alloc, p.field(), p.names().count(), terms)?;
-    Ok(p.halved(&element)?)
-}
+// One reflection among the permutations of three points. Relations of which nothing is left are dropped.
+const COSETS: &[Step] = &[
+    Step::Relate(Place::Algebra, (ZERO, 1, 0), 1, Ok(())),
+    Step::Relate(Place::Algebra, (BRAID, 1, 0), 1, Ok(())),
+    Step::Relate(Place::Algebra, (&[(1, &[2, 2]), (2, &[])], 1, 0), 1, Ok(())),
+    Step::Relate(Place::Module, (&[(1, &[2]), (2, &[])], 1, 0), 1, Ok(())),
+    Step::Relate(Place::Module, (ZERO, 1, 0), 1, Ok(())),
+    Step::AreCosets,
+];
+
+// With the relators of letters the first four take all cells that there are.
+const CELLS: &[Step] = &[
+    Step::Relate(Place::Algebra, (X_AND_Y, 12, 988), 2, Ok(())),
+    Step::Relate(Place::Algebra, (X_AND_Y, 12, 32), 1, Ok(())),
+    Step::Relate(Place::Algebra, (X_AND_Y, 4, 250), 1, Ok(())),
+    Step::Relate(
+        Place::Algebra,
+        (ONE, 1, 0),
+        1,
+        Err(PresFault::Limit(Limit::Cells { cells: 8_388_609 })),
+    ),
+    Step::Relate(Place::Algebra, (ZERO, 1, 0), 1, Ok(())),
+];
+
+const MODULE_CELLS: &[Step] = &[
+    Step::Relate(Place::Module, (X_AND_Y, 12, 988), 2, Ok(())),
+    Step::Relate(Place::Module, (X_AND_Y, 12, 32), 1, Ok(())),
+    Step::Relate(Place::Module, (X_AND_Y, 4, 250), 1, Ok(())),
+    Step::Relate(
+        Place::Module,
+        (ONE, 1, 0),
+        1,
+        Err(PresFault::Limit(Limit::Cells { cells: 8_388_609 })),
+    ),
+    Step::Relate(Place::Module, (ZERO, 1, 0), 1, Ok(())),
+];
+
+// Relations that are dropped count.
+const RELATIONS: &[Step] = &[
+    Step::Relate(Place::Algebra, (ZERO, 1, 0), 2048, Ok(())),
+    Step::Relate(Place::Module, (ZERO, 1, 0), 2048, Ok(())),
+    Step::Relate(
+        Place::Algebra,
+        (ZERO, 1, 0),
+        1,
+        Err(PresFault::Limit(Limit::Relations)),
+    ),
+    Step::Relate(
+        Place::Module,
+        (ZERO, 1, 0),
+        1,
+        Err(PresFault::Limit(Limit::Relations)),
+    ),
+];
 
 #[test]
-fn relations_have_these_halves(rt: HostRuntime) -> Result<(), Fail> {
-    let p = balanced(rt.alloc(), Field::new(3).ok_or("no field")?);
-    for (relation, half) in HALVES {
-        assert!(rt;
-            is(&half_of(rt.alloc(), &p, relation)?, half),
-            "{relation:?}"
-        );
+fn relations_have_these_answers(rt: HostRuntime) -> Result<(), Fail> {
+    let field = Field::new(3).ok_or("no field")?;
+    for (at, steps) in CASES.iter().enumerate() {
+        let failure = first_failure(rt.alloc(), field, steps)?;
+        assert!(rt; failure.is_none(), "step {failure:?} at {at}");
     }
     Ok(())
 }
 
-// A sum of terms, raised to a power and multiplied by a power of the first letter.
-type Product = (Terms, u32, u32);
-
-fn product_of(
-    alloc: Global,
-    field: &Field,
-    count: u8,
-    product: Product,
-) -> Result<FreeAlg, PresFault>
-    ensures reduced { IfOk result (λ r. IsReduced ShortlexLetters field.now r) }
-    ensures letters { IfOk result (λ r. HasLettersBelow count r) }
-{
-    let (terms, power, more) = product;
-    let front = element_of(alloc, field, count, terms)?.pow(field, power.min(1000))?;
-    let back = element_of(alloc, field, count, X)?.pow(field, more.min(1000))?;
-    front.mul(field, &back)
+/// The number of the first step, from 0, that a balanced presentation answers otherwise.
+fn first_failure(alloc: Global, field: Field, steps: &[Step]) -> Result<Option<usize>, PresFault> {
+    let mut p = Presentation::weighted(alloc, field);
+    p.balance();
+    let _answers = add_letters(&mut p);
+    for (at, step) in steps.iter().enumerate() {
+        if !passes(alloc, &mut p, step)? {
+            return Ok(Some(at));
+        }
+    }
+    Ok(None)
 }
 
-fn relate(alloc: Global, p: &mut Presentation, relation: Product) -> Result<(), PresFault> {
-    let relator = product_of(alloc, p.field(), p.names().count(), relation)?;
-    p.add_relation(relator)
+fn passes(alloc: Global, p: &mut Presentation, step: &Step) -> Result<bool, PresFault> {
+    match *step {
+        Step::Relate(place, relation, times, answer) => {
+            for _ in 0..times {
+                if relate(alloc, p, place, relation) != answer {
+                    return Ok(false);
+                }
+            }
+            Ok(true)
+        }
+        Step::Half(relation, half) => has_half(alloc, p, relation, half),
+        Step::AreCosets => Ok(are_cosets(p) && are_cosets(&p.copy()?)),
+    }
 }
 
-fn relate_in_module(
+fn relate(
     alloc: Global,
     p: &mut Presentation,
+    place: Place,
     relation: Product,
 ) -> Result<(), PresFault> {
     let element = product_of(alloc, p.field(), p.names().count(), relation)?;
-    let element = in_module(alloc, p.field(), &element)?;
-    p.add_sub(element)
+    match place {
+        Place::Algebra => p.add_relation(element),
+        Place::Module => {
+            let behind = in_module(alloc, p.field(), &element)?;
+            p.add_sub(behind)
+        }
+    }
 }
 
-// The cosets of one reflection among the permutations of three points. Relations of which nothing is left are dropped.
-fn cosets(alloc: Global, field: Field) -> Result<Presentation, PresFault> {
-    let mut p = balanced(alloc, field);
-    relate(alloc, &mut p, (ZERO, 1, 0))?;
-    relate(alloc, &mut p, (BRAID, 1, 0))?;
-    relate(alloc, &mut p, (&[(1, &[2, 2]), (2, &[])], 1, 0))?;
-    relate_in_module(alloc, &mut p, (&[(1, &[2]), (2, &[])], 1, 0))?;
-    relate_in_module(alloc, &mut p, (ZERO, 1, 0))?;
-    Ok(p)
+fn has_half(
+    alloc: Global,
+    p: &Presentation,
+    relation: Element,
+    half: Element,
+) -> Result<bool, PresFault> {
+    let element = element_of(alloc, p.field(), p.names().count(), relation)?;
+    Ok(has_terms(&p.halved(&element)?, half))
 }
 
 fn are_cosets(p: &Presentation) -> bool {
     p.relator_count() == 5
-        && is(p.relator(0), &[(1, &[0, 1]), (2, &[])])
-        && is(p.relator(2), &[(1, &[2, 2]), (2, &[])])
-        && is(p.relator(4), HALF_BRAID)
+        && has_terms(p.relator(0), &[(1, &[0, 1]), (2, &[])])
+        && has_terms(p.relator(2), &[(1, &[2, 2]), (2, &[])])
+        && has_terms(p.relator(4), HALF_BRAID)
         && p.sub_count() == 1
-        && is_in_module(p.sub(0), &[(1, &[2]), (2, &[])])
+        && has_terms_in_module(p.sub(0), &[(1, &[2]), (2, &[])])
         && (p.d(), p.m()) == (3, 1)
-}
-
-#[test]
-fn relations_stand(rt: HostRuntime) -> Result<(), Fail> {
-    let p = cosets(rt.alloc(), Field::new(3).ok_or("no field")?)?;
-    assert!(rt; are_cosets(&p) && are_cosets(&p.copy()?));
-    Ok(())
-}
-
-// With the relators of letters the first four take all cells that there are.
-const CELLS: [(Product, Option<Limit>); 6] = [
-    ((X_AND_Y, 12, 988), None),
-    ((X_AND_Y, 12, 988), None),
-    ((X_AND_Y, 12, 32), None),
-    ((X_AND_Y, 4, 250), None),
-    ((ONE, 1, 0), Some(Limit::Cells { cells: 8_388_609 })),
-    ((ZERO, 1, 0), None),
-];
-
-#[test]
-fn cells_are_limited(rt: HostRuntime) -> Result<(), Fail> {
-    let alloc = rt.alloc();
-    let mut p = balanced(alloc, Field::new(3).ok_or("no field")?);
-    let mut q = p.copy()?;
-    for (relation, expected) in CELLS {
-        assert!(rt; limit_of(relate(alloc, &mut p, relation)) == expected);
-        assert!(rt; limit_of(relate_in_module(alloc, &mut q, relation)) == expected);
-    }
-    Ok(())
-}
-
-#[test]
-fn relations_are_limited(rt: HostRuntime) -> Result<(), Fail> {
-    let alloc = rt.alloc();
-    let mut p = balanced(alloc, Field::new(3).ok_or("no field")?);
-    for _ in 0..2048 {
-        relate(alloc, &mut p, (ZERO, 1, 0))?;
-        relate_in_module(alloc, &mut p, (ZERO, 1, 0))?;
-    }
-    let full = Some(Limit::Relations);
-    assert!(rt; limit_of(relate(alloc, &mut p, (ZERO, 1, 0))) == full);
-    assert!(rt; limit_of(relate_in_module(alloc, &mut p, (ZERO, 1, 0))) == full);
-    Ok(())
 }

@@ -1,5 +1,7 @@
-//! Where texts are cut.
+//! Where texts are cut, and what is told of one that is cut too early.
 
+use super::refusal;
+use std::test::Fail;
 use ve_read::split;
 
 const CASES: [(&[u8], usize); 26] = [
@@ -40,9 +42,17 @@ const CASES: [(&[u8], usize); 26] = [
     (b"end#\x00\xff$\n1", 8),
 ];
 
+const TWO_CYCLE: &[u8] = b"venum 1\nprime 2\nletter x\nmodule 1\nrelation x^2 = 1\nend\n";
+
 #[test]
-fn texts_are_cut_behind_their_end(rt: HostRuntime) {
+fn texts_are_cut_behind_their_end(rt: HostRuntime) -> Result<(), Fail> {
     for (text, place) in CASES {
         assert_eq!(rt; split(text), place, "{text:?}");
     }
+    // The last line feed alone is not missed.
+    for end in 0..TWO_CYCLE.len() {
+        let told = refusal(rt.alloc(), &TWO_CYCLE[..end])?;
+        assert_eq!(rt; told.as_str() == "read", end + 1 == TWO_CYCLE.len());
+    }
+    Ok(())
 }

@@ -1,6 +1,6 @@
 use Rattle.std.proofs.Common.{sym, subst}
 use Rattle.ve_table.specs.Sound.{IsRowOf}
-use Rattle.ve_table_uses.proofs.tests.tables.put_back.Goals as goal
+use Rattle.ve_table_uses.proofs.tests.steps.put_back.Goals as goal
 
 pub set_row-requires-clause-row : goal.set_row-requires-clause-row
 set_row-requires-clause-row c =

@@ -4,7 +4,7 @@ use Rattle.ve_theory.specs.Combinations.{IsReduced}
 use Rattle.ve_theory.specs.Answers.{Row, IsRow}
 use Rattle.ve_theory.proofs.Reduced.{All_from_AllBefore}
 use Rattle.ve_table.specs.Tables.{presented}
-use Rattle.ve_table_uses.proofs.tests.settling.is_row.Goals as goal
+use Rattle.ve_table_uses.proofs.tests.steps.is_row.Goals as goal
 
 pub returns-in_default : goal.returns-in_default
 unfolding IsReduced

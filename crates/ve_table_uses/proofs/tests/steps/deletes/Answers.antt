@@ -1,6 +1,6 @@
 use Rattle.std.proofs.Common.{rules, IsTrue}
 use Rattle.ve_table_uses.proofs.Vanishing.{vector_vanishes}
-use Rattle.ve_table_uses.proofs.tests.settling.deletes.Goals as goal
+use Rattle.ve_table_uses.proofs.tests.steps.deletes.Goals as goal
 
 pub delete-requires-clause-derived : goal.delete-requires-clause-derived
 delete-requires-clause-derived c =

@@ -1,7 +1,7 @@
 use Rattle.std.proofs.Common.{ℕ, ◌<◌, ◌∙◌, None, Some, ap, arith, get_or, length}
 use Rattle.std.proofs.lemmas.Option.{slice_get-get_or}
 use Rattle.ve_table.specs.Tables.{IsLive}
-use Rattle.ve_table_uses.proofs.tests.tables.drop_none.Goals as goal
+use Rattle.ve_table_uses.proofs.tests.steps.drop_none.Goals as goal
 
 -- no id is dead
 pub drop_dead-requires : goal.drop_dead-requires
