@@ -1,5 +1,5 @@
 -- Lists of letters that grow.
-use Rattle.std.proofs.Common.{◌≡◌, ℕ, zero, suc, ◌+◌, ◌-◌, ◌*◌, ◌<◌, ◌≤◌, ◌⊎◌, inl, inr, List, [], ◌∷◌, ◌++◌, length, get_or, set, All, Some, None, Option, slice_get, IsTrue, IsFalse, refl, sym, subst, ap, ap₂, ◌∙◌, append_assoc, length-append, arith, sum_by}
+use Rattle.std.proofs.Common.{◌≡◌, ℕ, zero, suc, ◌+◌, ◌-◌, ◌*◌, ◌<◌, ◌≤◌, ◌⊎◌, inl, inr, List, [], ◌∷◌, ◌++◌, length, get_or, set, All, Some, None, Option, slice_get, IsTrue, IsFalse, refl, sym, subst, ap, ap₂, ◌∙◌, length-append, arith, sum_by}
 use Rattle.std.proofs.Math.Seq.{get_or-append_seam}
 use Rattle.std.proofs.Math.ListN.{length-set}
 use Rattle.std.proofs.lemmas.Bool.{cases_lt}
@@ -15,7 +15,7 @@ use Rattle.ve_lemmas.proofs.Relators.{inverse_relators_letters}
 use Rattle.ve_word.specs.NameList.{AreLetterNames}
 use Rattle.ve_pres.specs.Drafts.{IsNewName}
 use Rattle.ve_pres.specs.declared.presentation.letters.Letters.{Letters}
-use Rattle.ve_pres.specs.Letters.{AreLetters, AreSame}
+use Rattle.ve_pres.specs.Letters.{AreLetters, AreSame, IsPairPushed}
 
 pub new_name : (names all : List (List ℕ)) (name : List ℕ) → AreLetterNames all → all ≡ names ++ name ∷ [] → IsNewName names name
 new_name names all name whole is = go (let P : List (List ℕ) → Type 0 = λ u. AreLetterNames u in subst P is whole)
@@ -214,24 +214,17 @@ involution_letters version p n old mid new name are is pushed related =
     (related.relators ∙ ap₂ (λ (rs : List AlgebraElement) (x : ℕ). rs ++ ((x ∷ n ∷ [], 1) ∷ ([], p - 1) ∷ []) ∷ []) (ap (λ rs. rs.items) pushed.relators) place)
 
 pub pair_letters :
-    (version p n m : ℕ) (old mid both half new : Letters) (name inverse : List ℕ) → AreLetters version p old → n ≡ length old.names → m ≡ n + 1
-    → IsPushed old mid name (Some m) → IsPushed mid both inverse (Some n) → IsRelated p both half n m → IsRelated p half new m n → AreLetters version p new
+    (version p n : ℕ) (old new : Letters) (name inverse : List ℕ) → AreLetters version p old → IsPairPushed p old new name inverse n → AreLetters version p new
 unfolding inverse_relators
-pair_letters version p n m old mid both half new name inverse are is next first second left right =
-    let place : n ≡ length old.inverses.items = omega (arith, are.one_inverse_each) in
-    let after : m ≡ length old.inverses.items + 1 = omega arith in
-    grown_letters version p old new (Some m ∷ Some n ∷ []) (1 ∷ 1 ∷ []) are
-    (let P : List (List ℕ) → Type 0 = λ ns. AreLetterNames ns in subst P (sym (right.names ∙ left.names)) second.letters)
-    (ap (λ xs. xs.items) (right.inverses ∙ left.inverses) ∙ (second.inverses ∙ (ap (λ xs. xs ++ Some n ∷ []) first.inverses ∙ append_assoc old.inverses.items (Some m ∷ []) (Some n ∷ []))))
-    (ap (λ ws. ws.items) (right.weights ∙ left.weights) ∙ (second.weights ∙ (ap (λ ws. ws ++ 1 ∷ []) first.weights ∙ append_assoc old.weights.items (1 ∷ []) (1 ∷ []))))
+pair_letters version p n old new name inverse are pushed =
+    let place : n ≡ length old.inverses.items = omega (arith, pushed.letter, are.one_inverse_each) in
+    let after : n + 1 ≡ length old.inverses.items + 1 = omega arith in
+    grown_letters version p old new (Some (n + 1) ∷ Some n ∷ []) (1 ∷ 1 ∷ []) are pushed.letters pushed.inverses pushed.weights
     (All-cons (λ (w : ℕ). w ≡ 1) 1 (1 ∷ []) refl one) refl
-    (omega (arith, ap length (right.names ∙ left.names), ap length second.names, ap length first.names, length-append mid.names (inverse ∷ []), length-append old.names (name ∷ [])))
-    (inverses_pair old.inverses.items n m (inverses_of version p old are) place next)
-    (right.relators
-    ∙ (ap (λ rs. rs ++ ((m ∷ n ∷ [], 1) ∷ ([], p - 1) ∷ []) ∷ []) left.relators
-    ∙ (append_assoc both.relators.items (((n ∷ m ∷ [], 1) ∷ ([], p - 1) ∷ []) ∷ []) (((m ∷ n ∷ [], 1) ∷ ([], p - 1) ∷ []) ∷ [])
-    ∙ (ap (λ rs. rs.items ++ ((n ∷ m ∷ [], 1) ∷ ([], p - 1) ∷ []) ∷ ((m ∷ n ∷ [], 1) ∷ ([], p - 1) ∷ []) ∷ []) (second.relators ∙ first.relators)
-    ∙ ap₂ (λ (x : ℕ) (y : ℕ). old.relators.items ++ ((x ∷ m ∷ [], 1) ∷ ([], p - 1) ∷ []) ∷ ((y ∷ n ∷ [], 1) ∷ ([], p - 1) ∷ []) ∷ []) place after))))
+    (ap length pushed.names ∙ length-append old.names (name ∷ inverse ∷ []))
+    (inverses_pair old.inverses.items n (n + 1) (inverses_of version p old are) place refl)
+    (pushed.relators
+    ∙ ap₂ (λ (x : ℕ) (y : ℕ). old.relators.items ++ ((x ∷ (n + 1) ∷ [], 1) ∷ ([], p - 1) ∷ []) ∷ ((y ∷ n ∷ [], 1) ∷ ([], p - 1) ∷ []) ∷ []) place after)
 
 -- a letter has another weight
 pub weighed_letters :

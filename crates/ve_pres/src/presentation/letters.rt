@@ -6,7 +6,7 @@ ghost use Rattle.ve_theory.specs.Presentations.{greatest_of};
 ghost use Rattle.ve_theory.specs.Validity.{is_name};
 ghost use Rattle.ve_theory.specs.Presentations.{most_weight};
 ghost use Rattle.ve_word.specs.NameList.{AreLetterNames};
-ghost use Rattle.ve_pres.specs.Drafts.{IsNameFault, IsNewName};
+ghost use Rattle.ve_pres.specs.Drafts.{IsNameFault, IsNewName, IsPairFault};
 
 use crate::FreeAlg;
 use crate::presentation::copies::copy_relators;
@@ -24,7 +24,7 @@ pub(crate) struct Letters {
 }
 
 impl Letters {
-    ghost use Rattle.ve_pres.specs.Letters.{AreSame};
+    ghost use Rattle.ve_pres.specs.Letters.{AreSame, IsPairPushed};
 
     /// No letters.
     pub(crate) fn new(alloc: Global) -> Letters
@@ -70,6 +70,30 @@ impl Letters {
         self.inverses.push(inverse)?;
         self.weights.push(1)?;
         Ok(self.names.count() - 1)
+    }
+
+    /// Adds two letters of weight 1, each the inverse of the other, with their relators, and answers the first. Where one is
+    /// refused, the letters may hold a part of them.
+    pub(crate) fn push_pair(
+        &mut self,
+        field: &Field,
+        name: &str,
+        inverse: &str,
+    ) -> Result<u8, NameFault>
+        requires name { IsTrue (is_name name.now) }
+        requires inverse { IsTrue (is_name inverse.now) }
+        ensures pair { IfOk result (λ letter. IsPairPushed field.now self.old self.new name.now inverse.now letter) }
+        ensures first { OnOk result (IsNewName self.old.names name.now) }
+        ensures second { OnOk result (IsNewName (self.old.names ++ name.now ∷ []) inverse.now) }
+        ensures fault { IfErr result (IsPairFault self.old.names name.now inverse.now) }
+    {
+        let first = self.names.count();
+        let second = first + 1;
+        self.push(name, Some(second))?;
+        self.push(inverse, Some(first))?;
+        self.push_relator(field, first, second)?;
+        self.push_relator(field, second, first)?;
+        Ok(first)
     }
 
     /// Adds the relator that says that one letter is the inverse of the other.

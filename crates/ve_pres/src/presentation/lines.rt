@@ -57,12 +57,7 @@ impl Presentation {
         let Ok(mut letters) = self.letters.copy() else {
             return Err(NameFault::Memory);
         };
-        let first = letters.names.count();
-        let second = first + 1;
-        letters.push(name, Some(second))?;
-        letters.push(inverse, Some(first))?;
-        letters.push_relator(&self.field, first, second)?;
-        letters.push_relator(&self.field, second, first)?;
+        let first = letters.push_pair(&self.field, name, inverse)?;
         self.set_letters(letters);
         Ok(first)
     }
