@@ -15,9 +15,6 @@ use ve_pres::{FreeAlg, FreeMod, PresFault};
 /// Terms, each a coefficient and letters, from the greatest word on.
 pub(super) type Element = &'static [(u8, &'static [u8])];
 
-/// An element, raised to a power and multiplied by a power of the first letter.
-type Product = (Element, u32, u32);
-
 const ZERO: Element = &[];
 
 const ONE: Element = &[(1, &[])];
@@ -36,34 +33,47 @@ pub(super) fn element_of(
     ensures reduced { IfOk result (λ r. IsReduced ShortlexLetters field.now r) }
     ensures letters { IfOk result (λ r. HasLettersBelow count r) }
 {
-    field.has_prime();
     let mut sum = FreeAlg::zero(alloc);
     for (coef, letters) in terms {
-        let mut product = FreeAlg::constant(alloc, field, field.reduce(u128::from(*coef)))?;
-        for letter in *letters {
-            if *letter < count {
-                let factor = FreeAlg::letter(alloc, *letter)?;
-                product = product.mul(field, &factor)?;
-            }
-        }
-        sum = sum.add(field, &product)?;
+        let term = term_of(alloc, field, count, *coef, letters)?;
+        sum = sum.add(field, &term)?;
     }
     Ok(sum)
 }
 
-fn product_of(
+fn term_of(
     alloc: Global,
     field: &Field,
     count: u8,
-    product: Product,
+    coef: u8,
+    letters: &[u8],
 ) -> Result<FreeAlg, PresFault>
     ensures reduced { IfOk result (λ r. IsReduced ShortlexLetters field.now r) }
     ensures letters { IfOk result (λ r. HasLettersBelow count r) }
 {
-    let (terms, power, more) = product;
-    let front = element_of(alloc, field, count, terms)?.pow(field, power.min(1000))?;
-    let back = element_of(alloc, field, count, X)?.pow(field, more.min(1000))?;
-    front.mul(field, &back)
+    field.has_prime();
+    let mut product = FreeAlg::constant(alloc, field, field.reduce(u128::from(coef)))?;
+    for letter in letters {
+        if *letter < count {
+            let factor = FreeAlg::letter(alloc, *letter)?;
+            product = product.mul(field, &factor)?;
+        }
+    }
+    Ok(product)
+}
+
+fn power_of(
+    alloc: Global,
+    field: &Field,
+    count: u8,
+    terms: Element,
+    exponent: u32,
+) -> Result<FreeAlg, PresFault>
+    ensures reduced { IfOk result (λ r. IsReduced ShortlexLetters field.now r) }
+    ensures letters { IfOk result (λ r. HasLettersBelow count r) }
+{
+    let element = element_of(alloc, field, count, terms)?;
+    element.pow(field, exponent.min(1000))
 }
 
 /// The first generator times an element.

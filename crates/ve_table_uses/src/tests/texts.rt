@@ -6,8 +6,7 @@ mod large;
 mod refused;
 
 use super::algebra::{Element, has_terms};
-use std::alloc::Global;
-use std::test::Fail;
+use std::alloc::{AllocError, Global};
 use ve_pres::{FreeMod, Presentation};
 use ve_read::read;
 
@@ -90,10 +89,10 @@ fn has_module_terms(element: &FreeMod, terms: &[(u8, u8, &[u8])]) -> bool {
         })
 }
 
-// What is told of a text that is refused, and of one that is read.
-fn refusal(alloc: Global, text: &[u8]) -> Result<String, Fail> {
+/// Whether this is told of a text: why it is refused, or that it is read.
+fn is_told(alloc: Global, text: &[u8], told: &str) -> Result<bool, AllocError> {
     match read(alloc, text) {
-        Ok(_) => Ok(String::from_str(alloc, "read")?),
-        Err(refusal) => Ok(refusal.to_string(alloc)?),
+        Ok(_) => Ok(told == "read"),
+        Err(refusal) => Ok(refusal.to_string(alloc)?.as_str() == told),
     }
 }

@@ -4,16 +4,14 @@ ghost use Rattle.std.specs.Prelude.{IfOk};
 ghost use Rattle.ve_theory.specs.Combinations.{IsReduced};
 ghost use Rattle.ve_theory.specs.Words.{ShortlexLetters};
 
-use super::{
-    Element, ONE, X, X_AND_Y, ZERO, has_terms, has_terms_in_module, in_module, product_of,
-};
+use super::{Element, ONE, X, X_AND_Y, ZERO, has_terms, has_terms_in_module, in_module, power_of};
 use std::alloc::Global;
 use std::test::Fail;
 use ve_field::Field;
 use ve_pres::{FreeAlg, FreeMod, Limit, PresFault};
 
 /// Of two elements. `Scale` and `Pow` take the first one alone.
-#[derive(Clone, Copy, Debug)]
+#[derive(Clone, Copy)]
 enum Call {
     Add,
     Plus,
@@ -173,11 +171,54 @@ fn calls_have_these_outcomes(rt: HostRuntime) -> Result<(), Fail> {
 
 fn passes(alloc: Global, field: &Field, case: Case) -> Result<bool, PresFault> {
     let (call, left, right, outcome) = case;
-    let left = product_of(alloc, field, 2, (left.0, left.1, 0))?;
-    let right = product_of(alloc, field, 2, (right.0, right.1, 0))?;
-    let element = called(field, call, &left, &right);
-    let in_module = called_in_module(alloc, field, call, &left, &right);
-    Ok(agrees(&element, &in_module, outcome))
+    let left = power_of(alloc, field, 2, left.0, left.1)?;
+    let right = power_of(alloc, field, 2, right.0, right.1)?;
+    Ok(
+        gives(field, call, &left, &right, outcome)
+            && gives_in_module(alloc, field, call, &left, &right, outcome),
+    )
+}
+
+fn gives(field: &Field, call: Call, left: &FreeAlg, right: &FreeAlg, outcome: Outcome) -> bool
+    requires left { IsReduced ShortlexLetters field.now left.now }
+    requires right { IsReduced ShortlexLetters field.now right.now }
+{
+    match called(field, call, left, right) {
+        Ok(element) => match outcome {
+            Outcome::Is(terms) => has_terms(&element, terms),
+            Outcome::Stands => true,
+            Outcome::Exceeds(_) => false,
+        },
+        Err(fault) => exceeds(fault, outcome),
+    }
+}
+
+fn gives_in_module(
+    alloc: Global,
+    field: &Field,
+    call: Call,
+    left: &FreeAlg,
+    right: &FreeAlg,
+    outcome: Outcome,
+) -> bool
+    requires left { IsReduced ShortlexLetters field.now left.now }
+    requires right { IsReduced ShortlexLetters field.now right.now }
+{
+    match called_in_module(alloc, field, call, left, right) {
+        Ok(element) => match outcome {
+            Outcome::Is(terms) => has_terms_in_module(&element, terms),
+            Outcome::Stands => true,
+            Outcome::Exceeds(_) => false,
+        },
+        Err(fault) => exceeds(fault, outcome),
+    }
+}
+
+fn exceeds(fault: PresFault, outcome: Outcome) -> bool {
+    match outcome {
+        Outcome::Exceeds(limit) => fault == PresFault::Limit(limit),
+        _ => false,
+    }
 }
 
 fn called(field: &Field, call: Call, left: &FreeAlg, right: &FreeAlg) -> Result<FreeAlg, PresFault>
@@ -214,23 +255,5 @@ fn called_in_module(
         Call::Mul => first.times(field, right),
         Call::Scale(by) => Ok(first.scale(field, field.reduce(u128::from(by)))?),
         Call::Pow(_) => in_module(alloc, field, &called(field, call, left, right)?),
-    }
-}
-
-fn agrees(
-    element: &Result<FreeAlg, PresFault>,
-    in_module: &Result<FreeMod, PresFault>,
-    outcome: Outcome,
-) -> bool {
-    match (element, in_module, outcome) {
-        (Ok(element), Ok(in_module), Outcome::Is(terms)) => {
-            has_terms(element, terms) && has_terms_in_module(in_module, terms)
-        }
-        (Ok(_), Ok(_), Outcome::Stands) => true,
-        (Err(one), Err(other), Outcome::Exceeds(limit)) => {
-            let fault = PresFault::Limit(limit);
-            *one == fault && *other == fault
-        }
-        _ => false,
     }
 }

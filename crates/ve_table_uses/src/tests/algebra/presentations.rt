@@ -1,16 +1,18 @@
 //! Letters and relations of presentations.
 
-ghost use Rattle.std.specs.Prelude.{◌≡◌};
+ghost use Rattle.std.specs.Prelude.{IfOk};
+ghost use Rattle.ve_theory.specs.Combinations.{IsReduced};
+ghost use Rattle.ve_theory.specs.Words.{ShortlexLetters};
 ghost use Rattle.ve_pres.specs.Drafts.{IsOpen};
+ghost use Rattle.ve_pres.specs.Terms.{HasLettersBelow};
 
 use super::{
-    Element, ONE, Product, X_AND_Y, ZERO, element_of, has_terms, has_terms_in_module, in_module,
-    product_of,
+    Element, ONE, X, X_AND_Y, ZERO, element_of, has_terms, has_terms_in_module, in_module, power_of,
 };
 use std::alloc::Global;
 use std::test::Fail;
 use ve_field::Field;
-use ve_pres::{Limit, PresFault, Presentation};
+use ve_pres::{FreeAlg, Limit, PresFault, Presentation};
 use ve_word::NameFault;
 
 // Tries to add letters. Those that stand are x with the inverse X, then a and b, which are their own inverses, and c.
@@ -63,6 +65,9 @@ fn weights_stand(alloc: Global, field: Field) -> Result<bool, NameFault> {
     Ok(p.weight_of(0) == 3 && p.weight_of(1) == 1 && p.greatest_weight() == 3 && p.d() == 3)
 }
 
+/// An element, raised to a power and multiplied by a power of the first letter.
+type Product = (Element, u32, u32);
+
 /// Where an element is a relation: in the algebra, or behind the first generator in the module.
 #[derive(Clone, Copy)]
 enum Place {
@@ -82,7 +87,7 @@ enum Step {
 }
 
 // Steps on balanced presentations modulo 3.
-const CASES: [&[Step]; 5] = [HALVES, COSETS, CELLS, MODULE_CELLS, RELATIONS];
+const CASES: &[&[Step]] = &[HALVES, COSETS, CELLS, MODULE_CELLS, RELATIONS];
 
 const BRAID: Element = &[(1, &[2, 3, 2, 3, 2, 3]), (2, &[])];
 
@@ -190,16 +195,27 @@ fn first_failure(alloc: Global, field: Field, steps: &[Step]) -> Result<Option<u
 fn passes(alloc: Global, p: &mut Presentation, step: &Step) -> Result<bool, PresFault> {
     match *step {
         Step::Relate(place, relation, times, answer) => {
-            for _ in 0..times {
-                if relate(alloc, p, place, relation) != answer {
-                    return Ok(false);
-                }
-            }
-            Ok(true)
+            Ok(relates(alloc, p, place, relation, times, answer))
         }
         Step::Half(relation, half) => has_half(alloc, p, relation, half),
         Step::AreCosets => Ok(are_cosets(p) && are_cosets(&p.copy()?)),
     }
+}
+
+fn relates(
+    alloc: Global,
+    p: &mut Presentation,
+    place: Place,
+    relation: Product,
+    times: u32,
+    answer: Result<(), PresFault>,
+) -> bool {
+    for _ in 0..times {
+        if relate(alloc, p, place, relation) != answer {
+            return false;
+        }
+    }
+    true
 }
 
 fn relate(
@@ -216,6 +232,21 @@ fn relate(
             p.add_sub(behind)
         }
     }
+}
+
+fn product_of(
+    alloc: Global,
+    field: &Field,
+    count: u8,
+    product: Product,
+) -> Result<FreeAlg, PresFault>
+    ensures reduced { IfOk result (λ r. IsReduced ShortlexLetters field.now r) }
+    ensures letters { IfOk result (λ r. HasLettersBelow count r) }
+{
+    let (terms, power, more) = product;
+    let front = power_of(alloc, field, count, terms, power)?;
+    let back = power_of(alloc, field, count, X, more)?;
+    front.mul(field, &back)
 }
 
 fn has_half(

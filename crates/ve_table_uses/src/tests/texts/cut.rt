@@ -1,10 +1,10 @@
 //! Where texts are cut, and what is told of one that is cut too early.
 
-use super::refusal;
+use super::is_told;
 use std::test::Fail;
 use ve_read::split;
 
-const CASES: [(&[u8], usize); 26] = [
+const CASES: &[(&[u8], usize)] = &[
     (b"", 0),
     (b"\n", 1),
     (b"end", 3),
@@ -47,12 +47,12 @@ const TWO_CYCLE: &[u8] = b"venum 1\nprime 2\nletter x\nmodule 1\nrelation x^2 = 
 #[test]
 fn texts_are_cut_behind_their_end(rt: HostRuntime) -> Result<(), Fail> {
     for (text, place) in CASES {
-        assert_eq!(rt; split(text), place, "{text:?}");
+        assert_eq!(rt; split(text), *place, "{text:?}");
     }
     // The last line feed alone is not missed.
     for end in 0..TWO_CYCLE.len() {
-        let told = refusal(rt.alloc(), &TWO_CYCLE[..end])?;
-        assert_eq!(rt; told.as_str() == "read", end + 1 == TWO_CYCLE.len());
+        let is_read = is_told(rt.alloc(), &TWO_CYCLE[..end], "read")?;
+        assert_eq!(rt; is_read, end + 1 == TWO_CYCLE.len());
     }
     Ok(())
 }

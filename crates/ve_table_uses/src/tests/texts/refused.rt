@@ -1,12 +1,12 @@
 //! Texts that are refused, with the first line that is refused, and the first fault of that line.
 
-use super::refusal;
+use super::is_told;
 use std::test::Fail;
 
 /// A text, and what is told of it.
 type Refusal = (&'static [u8], &'static str);
 
-const THEMES: [(&str, &[Refusal]); 6] = [
+const THEMES: &[(&str, &[Refusal])] = &[
     ("single faults", ROWS),
     ("first faults", ORDER),
     ("faults of tokens", TOKENS),
@@ -18,9 +18,8 @@ const THEMES: [(&str, &[Refusal]); 6] = [
 #[test]
 fn texts_are_refused(rt: HostRuntime) -> Result<(), Fail> {
     for (theme, rows) in THEMES {
-        for (at, (text, expected)) in rows.iter().enumerate() {
-            let told = refusal(rt.alloc(), text)?;
-            assert_eq!(rt; told.as_str(), *expected, "at {at} of {theme}");
+        for (at, (text, told)) in rows.iter().enumerate() {
+            assert!(rt; is_told(rt.alloc(), text, told)?, "at {at} of {theme}");
         }
     }
     Ok(())

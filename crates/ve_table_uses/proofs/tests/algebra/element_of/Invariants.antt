@@ -5,6 +5,3 @@ use Rattle.ve_table_uses.proofs.tests.algebra.element_of.Given as goal
 
 abbrev pub invariant-loop-coef : goal.invariant-loop-coef
 invariant-loop-coef l = IsReduced ShortlexLetters l.field l.sum × HasLettersBelow l.count l.sum
-
-abbrev pub invariant-loop-letter : goal.invariant-loop-letter
-invariant-loop-letter l = IsReduced ShortlexLetters l.field l.product × HasLettersBelow l.count l.product
