@@ -20,7 +20,7 @@ macro_rules! symbol {
 }
 
 // Lines with their tokens, or with their first fault.
-const LINES: [(&[u8], Result<&[Placed], LexFault>); 27] = [
+const LINES: &[(&[u8], Result<&[Placed], LexFault>)] = &[
     (
         b"a*12 # b",
         Ok(&[
@@ -93,9 +93,9 @@ fn lines_have_these_tokens(rt: HostRuntime) {
     for (line, expected) in LINES {
         match (tokens(rt.alloc(), line), expected) {
             (Ok(found), Ok(expected)) => {
-                assert_eq!(rt; found.as_slice(), expected, "at {line:?}");
+                assert_eq!(rt; found.as_slice(), *expected, "at {line:?}");
             }
-            (Err(fault), Err(expected)) => assert_eq!(rt; fault, expected, "at {line:?}"),
+            (Err(fault), Err(expected)) => assert_eq!(rt; fault, *expected, "at {line:?}"),
             _ => assert!(rt; false, "at {line:?}"),
         }
     }

@@ -4,7 +4,7 @@ use std::test::Fail;
 use ve_make::make;
 
 /// Points, node, prime, and how many relators and submodule relations there are; none where there is no presentation.
-const MADE: [(u64, u64, u64, Option<(u32, u32)>); 8] = [
+const MADE: &[(u64, u64, u64, Option<(u32, u32)>)] = &[
     (2, 1, 2, Some((1, 0))),
     (3, 2, 3, Some((3, 1))),
     (25, 24, 251, Some((300, 23))),
@@ -17,7 +17,7 @@ const MADE: [(u64, u64, u64, Option<(u32, u32)>); 8] = [
 
 #[test]
 fn made(rt: HostRuntime) -> Result<(), Fail> {
-    for (points, node, prime, counts) in &MADE {
+    for (points, node, prime, counts) in MADE {
         let made = make(rt.alloc(), *points, *node, *prime)?;
         let found = match &made {
             Some(presentation) => Some((presentation.relator_count(), presentation.sub_count())),

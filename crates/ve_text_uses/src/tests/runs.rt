@@ -17,7 +17,7 @@ const TWO_CYCLE_ANSWER: &str =
 const FIELD_OF_FOUR: &str = "venum 1\nprime 2\nletter x\nmodule 1\nrelation x^2 = x + 1\nend\n";
 
 /// Texts with their answers.
-const ANSWERED: [(&str, &str); 11] = [
+const ANSWERED: &[(&str, &str)] = &[
     (
         "venum 1\nprime 5\nletter x\nmodule 1\nrelation x = 1\nrelation x = 2\nend\n",
         "venum-answer 1\nprime 5\nletters x\nmodule 1\nclosed 1\ndimension 0\nimage\nletter x\nend\n",
@@ -58,7 +58,7 @@ const ANSWERED: [(&str, &str); 11] = [
 ];
 
 /// Texts with their canonical texts.
-const SHOWN: [(&str, &str); 13] = [
+const SHOWN: &[(&str, &str)] = &[
     // The last line feed may be missing, and blanks may stand behind the end.
     (
         "venum 1\nprime 2\nletter x\nmodule 1\nrelation x^2 = 1\nend",
@@ -120,7 +120,7 @@ const SHOWN: [(&str, &str); 13] = [
 ];
 
 /// Lists of words, a text with what follows it, and how the program ends on each list.
-const RUNS: [(&[&[&str]], &str, &str, u8, &str, &str); 23] = [
+const RUNS: &[(&[&[&str]], &str, &str, u8, &str, &str)] = &[
     // Limits and summaries.
     (
         &[
@@ -355,7 +355,7 @@ const TRIANGLE_ANSWER: &str =
     "venum-answer 1\nprime 3\nletters a b\nmodule 1\nclosed 8\ndimension 3\nbasis e1\nbasis e1*b\nbasis e1*b*a\nimage 1 0 0\nletter a\nrow 1 0 0\nrow 0 0 1\nrow 0 1 0\nletter b\nrow 0 1 0\nrow 1 0 0\nrow 0 0 1\nend\n";
 
 /// Texts that are refused, with what is told.
-const REFUSED: [(&str, &str); 27] = [
+const REFUSED: &[(&str, &str)] = &[
     ("", "venum: line 1: end is missing\n"),
     (
         "venum 1\nprime 2\nletter x\nmodule 1\nrelation x^2 = 1\n",
@@ -464,7 +464,7 @@ const REFUSED: [(&str, &str); 27] = [
 ];
 
 /// The parts of a text, of which the middle one stands many times, with what is told of it.
-const REPEATED: [(&str, &str, usize, &str, &str); 5] = [
+const REPEATED: &[(&str, &str, usize, &str, &str)] = &[
     (
         "venum 1\nprime 2\nletter x\nmodule 1\n",
         "relation x = x\n",
@@ -506,7 +506,7 @@ const LETTERS: &str =
 
 /// Words, a text, the calls of the source, the output and the error output that fail, counted from 1 (0 for none), and how the
 /// program ends. What was put before the call that failed is the front of the text.
-const STREAMS: [(&[&str], &str, (u32, u32, u32), u8, &str, &str); 16] = [
+const STREAMS: &[(&[&str], &str, (u32, u32, u32), u8, &str, &str)] = &[
     (
         &["venum", "show"],
         TWO_CYCLE,
@@ -701,7 +701,7 @@ fn repeated(
 
 #[test]
 fn answers_are_found_and_confirmed(rt: HostRuntime) -> Result<(), Fail> {
-    for (text, answer) in &ANSWERED {
+    for (text, answer) in ANSWERED {
         let table = [
             ("alone", "", *answer),
             ("shared", "", *answer),
@@ -717,7 +717,7 @@ fn answers_are_found_and_confirmed(rt: HostRuntime) -> Result<(), Fail> {
 
 #[test]
 fn canonical_texts_are_shown(rt: HostRuntime) -> Result<(), Fail> {
-    for (text, shown) in &SHOWN {
+    for (text, shown) in SHOWN {
         for text in [*text, *shown] {
             let left = run_on(rt.alloc(), &["venum", "show"], text, "")?;
             assert!(rt; left.is(0, shown, ""), "{text}");
@@ -728,7 +728,7 @@ fn canonical_texts_are_shown(rt: HostRuntime) -> Result<(), Fail> {
 
 #[test]
 fn texts_are_refused_where_they_fail(rt: HostRuntime) -> Result<(), Fail> {
-    for (text, message) in &REFUSED {
+    for (text, message) in REFUSED {
         for command in ["alone", "show"] {
             let left = run_on(rt.alloc(), &["venum", command], text, "")?;
             assert!(rt; left.is(3, "", message), "{command} {text}");
@@ -739,7 +739,7 @@ fn texts_are_refused_where_they_fail(rt: HostRuntime) -> Result<(), Fail> {
 
 #[test]
 fn words_end_as_they_say(rt: HostRuntime) -> Result<(), Fail> {
-    for (lists, text, behind, status, out, err) in &RUNS {
+    for (lists, text, behind, status, out, err) in RUNS {
         for words in *lists {
             let left = run_on(rt.alloc(), words, text, behind)?;
             assert!(rt; left.is(*status, out, err), "{text}{behind}{out}{err}");
@@ -751,7 +751,7 @@ fn words_end_as_they_say(rt: HostRuntime) -> Result<(), Fail> {
 #[test]
 fn long_texts_are_refused(rt: HostRuntime) -> Result<(), Fail> {
     let alloc = rt.alloc();
-    for (front, part, count, back, message) in &REPEATED {
+    for (front, part, count, back, message) in REPEATED {
         let input = repeated(alloc, front, part, *count, back)?;
         let left = run(alloc, &["venum", "show"], input, (0, 0, 0))?;
         assert!(rt; left.is(3, "", message), "{message}");
@@ -762,7 +762,7 @@ fn long_texts_are_refused(rt: HostRuntime) -> Result<(), Fail> {
 #[test]
 fn streams_that_fail_are_told(rt: HostRuntime) -> Result<(), Fail> {
     let alloc = rt.alloc();
-    for (words, text, failing, status, out, err) in &STREAMS {
+    for (words, text, failing, status, out, err) in STREAMS {
         let input = repeated(alloc, text, "", 0, "")?;
         let left = run(alloc, words, input, *failing)?;
         assert!(rt; left.is(*status, out, err), "{text}{out}{err}");

@@ -5,7 +5,7 @@ use std::test::Fail;
 use ve_words::{Command, WordsFault, read_words};
 
 /// Words, the program's name first, and what they mean.
-const READ: [(&[&str], Result<Command, WordsFault>); 10] = [
+const READ: &[(&[&str], Result<Command, WordsFault>)] = &[
     (
         &["venum", "alone"],
         Ok(Command::Alone {
@@ -58,7 +58,7 @@ const READ: [(&[&str], Result<Command, WordsFault>); 10] = [
 
 #[test]
 fn words_mean_commands(rt: HostRuntime) -> Result<(), Fail> {
-    for (words, command) in &READ {
+    for (words, command) in READ {
         let words = strings(rt.alloc(), words)?;
         assert!(rt; read_words(rt.alloc(), &words) == *command);
     }

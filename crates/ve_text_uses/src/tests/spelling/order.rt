@@ -5,7 +5,7 @@ use std::test::Fail;
 use ve_word::{shortlex, weighted};
 
 // Two words, each a root and letters, and their orders by length and by weight. The letters 0, 1 and 2 weigh 3, 1 and 0.
-const PAIRS: [(u8, &[u8], u8, &[u8], Ordering, Ordering); 13] = [
+const PAIRS: &[(u8, &[u8], u8, &[u8], Ordering, Ordering)] = &[
     (0, &[1], 1, &[0], Less, Less),
     (1, &[], 0, &[0], Less, Less),
     (0, &[0, 0], 1, &[1], Greater, Greater),
@@ -25,12 +25,12 @@ const PAIRS: [(u8, &[u8], u8, &[u8], Ordering, Ordering); 13] = [
 fn shorter_or_lighter_words_come_first(rt: HostRuntime) -> Result<(), Fail> {
     let weights = vec![in rt.alloc(); 3, 1, 0]?;
     for (first_root, first_letters, second_root, second_letters, by_length, by_weight) in PAIRS {
-        let first = word_of(rt.alloc(), first_root, first_letters)?;
-        let second = word_of(rt.alloc(), second_root, second_letters)?;
+        let first = word_of(rt.alloc(), *first_root, first_letters)?;
+        let second = word_of(rt.alloc(), *second_root, second_letters)?;
         assert!(rt; is_below(&first, weights.len()));
         assert!(rt; is_below(&second, weights.len()));
-        assert_eq!(rt; shortlex(&first, &second), by_length);
-        assert_eq!(rt; weighted(&first, &second, &weights), by_weight);
+        assert_eq!(rt; shortlex(&first, &second), *by_length);
+        assert_eq!(rt; weighted(&first, &second, &weights), *by_weight);
     }
     Ok(())
 }

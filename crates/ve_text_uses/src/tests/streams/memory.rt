@@ -17,14 +17,14 @@ fn take_each<S: Source>(
     }
 }
 
-const FILLED: [(usize, Result<usize, Failed>, &[u8]); 4] = [
+const FILLED: &[(usize, Result<usize, Failed>, &[u8])] = &[
     (3, Ok(3), b"abc....."),
     (8, Ok(2), b"de......"),
     (8, Ok(0), b"........"),
     (1, Ok(0), b"........"),
 ];
 
-const FILLED_OR_FAILED: [(usize, Result<usize, Failed>, &[u8]); 6] = [
+const FILLED_OR_FAILED: &[(usize, Result<usize, Failed>, &[u8])] = &[
     (2, Ok(2), b"ab......"),
     (8, Err(Failed), b"........"),
     (1, Ok(1), b"c......."),
@@ -37,9 +37,9 @@ const FILLED_OR_FAILED: [(usize, Result<usize, Failed>, &[u8]); 6] = [
 fn sources_give_what_fits(rt: HostRuntime) -> Result<(), Fail> {
     let alloc = rt.alloc();
     let mut failing = MemSource::new(b"abcde".to_vec(alloc)?, vec![in alloc; 5, 2]?);
-    take_each(&rt, &mut failing, &FILLED_OR_FAILED);
-    take_each(&rt, &mut SureSource::new(b"abcde".to_vec(alloc)?), &FILLED);
-    take_each(&rt, &mut FromRead::new(b"abcde".as_slice()), &FILLED);
+    take_each(&rt, &mut failing, FILLED_OR_FAILED);
+    take_each(&rt, &mut SureSource::new(b"abcde".to_vec(alloc)?), FILLED);
+    take_each(&rt, &mut FromRead::new(b"abcde".as_slice()), FILLED);
     Ok(())
 }
 

@@ -12,7 +12,7 @@ type Row = (
     Option<Result<&'static [(u8, &'static [u8])], ValueFault>>,
 );
 
-const RELATIONS: [Row; 43] = [
+const RELATIONS: &[Row] = &[
     ("x*a", "a*x", Some(Ok(&[(4, &[2, 0]), (1, &[0, 2])]))),
     ("- x + a", "0", Some(Ok(&[(1, &[2]), (4, &[0])]))),
     ("+ x - a - a", "0", Some(Ok(&[(3, &[2]), (1, &[0])]))),
@@ -111,7 +111,7 @@ fn has_difference(alloc: Global, presentation: &Presentation, row: &Row) -> bool
 #[test]
 fn relations_have_these_differences(rt: HostRuntime) -> Result<(), Fail> {
     let presentation = presentation(rt.alloc()).ok_or("no presentation")?;
-    for row in &RELATIONS {
+    for row in RELATIONS {
         assert!(rt; has_difference(rt.alloc(), &presentation, row), "{row:?}");
     }
     Ok(())

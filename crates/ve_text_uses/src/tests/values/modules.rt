@@ -6,7 +6,7 @@ use ve_value::{ValueFault, is_module_expression, module_difference_of};
 
 // Submodule relations and the terms of their differences, each a coefficient, a generator and letters; or the first fault of
 // the left side, or else of the right one; or none, where the left side is no expression of the module.
-const RELATIONS: [(&str, &str, Option<Result<&[(u8, u8, &[u8])], ValueFault>>); 31] = [
+const RELATIONS: &[(&str, &str, Option<Result<&[(u8, u8, &[u8])], ValueFault>>)] = &[
     ("e1", "e2", Some(Ok(&[(4, 1, &[]), (1, 0, &[])]))),
     ("- e1 + e2", "0", Some(Ok(&[(1, 1, &[]), (4, 0, &[])]))),
     ("2*e1*x - e2", "0", Some(Ok(&[(2, 0, &[0]), (4, 1, &[])]))),
@@ -90,7 +90,7 @@ fn agrees(
 #[test]
 fn submodule_relations_have_these_differences(rt: HostRuntime) -> Result<(), Fail> {
     let presentation = presentation(rt.alloc()).ok_or("no presentation")?;
-    for (left, right, expected) in &RELATIONS {
+    for (left, right, expected) in RELATIONS {
         let found = difference(rt.alloc(), &presentation, left, right);
         assert!(rt; agrees(&found, expected), "{left} = {right}");
     }
