@@ -16,6 +16,7 @@ mod copy;
 mod drop_dead;
 mod grow;
 mod into_parts;
+mod lists;
 mod live;
 mod open;
 

@@ -3,6 +3,7 @@ ghost use Rattle.std.specs.Prelude.{◌≡◌, ◌≤◌, IfOk, length, vec_capa
 use crate::Table;
 use crate::entry::Entry;
 use crate::reaches::Reaches;
+use crate::table::lists::Lists;
 use ve_pres::Presentation;
 use ve_vec::Sparse;
 use ve_word::Memory;
@@ -13,19 +14,23 @@ impl Table {
         ensures { IfOk result (λ t. t ≡ self.now) }
     {
         let (presentation, reaches) = copy_relations(&self.presentation, &self.reaches)?;
-        let (entries, forwards) = copy_ids(&self.entries, &self.forwards)?;
-        let (rows, bounds) = copy_rows(&self.rows, &self.bounds)?;
-        let images = copy_vectors(&self.images, self.images.len())?;
+        let lists = copy_lists(
+            &self.entries,
+            &self.forwards,
+            &self.rows,
+            &self.bounds,
+            &self.images,
+        )?;
         Ok(Table {
             presentation,
             reaches,
             level: self.level,
-            entries,
-            forwards,
-            rows,
-            bounds,
+            entries: lists.entries,
+            forwards: lists.forwards,
+            rows: lists.rows,
+            bounds: lists.bounds,
             live: self.live,
-            images,
+            images: lists.images,
         })
     }
 }
@@ -44,6 +49,34 @@ fn copy_relations(
     Ok((presentation, reaches))
 }
 
+/// The same lists once more, with room for a forward of each id.
+fn copy_lists(
+    entries: &Vec<Entry>,
+    forwards: &Vec<Sparse>,
+    rows: &Vec<Sparse>,
+    bounds: &Vec<u32>,
+    images: &Vec<Sparse>,
+) -> Result<Lists, Memory>
+    requires { length forwards.now.items ≤ length entries.now.items }
+    ensures entries { IfOk result (λ l. l.entries.items ≡ entries.now.items) }
+    ensures forwards { IfOk result (λ l. l.forwards.items ≡ forwards.now.items) }
+    ensures room { IfOk result (λ l. vec_capacity l.forwards ≡ length entries.now.items) }
+    ensures rows { IfOk result (λ l. l.rows.items ≡ rows.now.items) }
+    ensures bounds { IfOk result (λ l. l.bounds.items ≡ bounds.now.items) }
+    ensures images { IfOk result (λ l. l.images.items ≡ images.now.items) }
+{
+    let (entries, forwards) = copy_ids(entries, forwards)?;
+    let (rows, bounds) = copy_rows(rows, bounds)?;
+    let images = copy_vectors(images, images.len())?;
+    Ok(Lists {
+        entries,
+        forwards,
+        rows,
+        bounds,
+        images,
+    })
+}
+
 /// The same entries once more, and their forwards with room for one of each id.
 fn copy_ids(
     entries: &Vec<Entry>,
@@ -60,10 +93,7 @@ fn copy_ids(
 }
 
 /// The same rows once more, and how many ids have one.
-fn copy_rows(
-    rows: &Vec<Sparse>,
-    bounds: &Vec<u32>,
-) -> Result<(Vec<Sparse>, Vec<u32>), Memory>
+fn copy_rows(rows: &Vec<Sparse>, bounds: &Vec<u32>) -> Result<(Vec<Sparse>, Vec<u32>), Memory>
     ensures rows { IfOk result (λ r. r.0.items ≡ rows.now.items) }
     ensures bounds { IfOk result (λ r. r.1.items ≡ bounds.now.items) }
 {

@@ -1,4 +1,4 @@
-ghost use Rattle.std.specs.Prelude.{◌≡◌, ◌≤◌, IfOk, map};
+ghost use Rattle.std.specs.Prelude.{◌≡◌, [], All, IfOk, length, map, vec_capacity};
 ghost use Rattle.std.specs.List.{range_with_len};
 ghost use Rattle.ve_theory.specs.Combinations.{unit};
 ghost use Rattle.ve_table.specs.Sound.{IsSound};
@@ -8,6 +8,7 @@ ghost use Rattle.ve_table.specs.Roots.{AreRoots};
 use crate::bounds::no_bounds;
 use crate::entry::Entry;
 use crate::reaches::Reaches;
+use crate::table::lists::Lists;
 use crate::{Origin, Table};
 use std::alloc::Global;
 use ve_pres::Presentation;
@@ -25,18 +26,42 @@ impl Table {
         let reaches = Reaches::of(alloc, &presentation)?;
         let roots = presentation.roots() as u8;
         let letters = presentation.weights().len();
+        let lists = root_lists(alloc, roots, letters)?;
         Ok(Table {
             presentation,
             reaches,
             level: 0,
-            entries: root_entries(alloc, roots)?,
-            forwards: Vec::with_capacity(alloc, usize::from(roots))?,
-            rows: Vec::new(alloc),
-            bounds: no_bounds(alloc, letters)?,
+            entries: lists.entries,
+            forwards: lists.forwards,
+            rows: lists.rows,
+            bounds: lists.bounds,
             live: u32::from(roots),
-            images: root_images(alloc, roots)?,
+            images: lists.images,
         })
     }
+}
+
+/// The lists of a table of level 0, with room for a forward of each id.
+fn root_lists(alloc: Global, roots: u8, letters: usize) -> Result<Lists, Memory>
+    ensures entries { IfOk result (λ l. AreRoots roots l.entries.items) }
+    ensures forwards { IfOk result (λ l. l.forwards.items ≡ []) }
+    ensures room { IfOk result (λ l. vec_capacity l.forwards ≡ roots) }
+    ensures rows { IfOk result (λ l. l.rows.items ≡ []) }
+    ensures letters { IfOk result (λ l. length l.bounds.items ≡ letters) }
+    ensures zero { IfOk result (λ l. All (λ bound. bound ≡ 0) l.bounds.items) }
+    ensures images { IfOk result (λ l. l.images.items ≡ map unit (range_with_len 0 roots)) }
+{
+    let entries = root_entries(alloc, roots)?;
+    let forwards = Vec::with_capacity(alloc, usize::from(roots))?;
+    let bounds = no_bounds(alloc, letters)?;
+    let images = root_images(alloc, roots)?;
+    Ok(Lists {
+        entries,
+        forwards,
+        rows: Vec::new(alloc),
+        bounds,
+        images,
+    })
 }
 
 fn root_entries(alloc: Global, roots: u8) -> Result<Vec<Entry>, Memory>
