@@ -1,6 +1,6 @@
 -- The products of one reach, letter weight by letter weight.
 use Rattle.std.proofs.Common.{◌≡◌, ℕ, zero, suc, ◌+◌, ◌-◌, ◌<◌, ◌≤◌, ◌⊎◌, inl, inr, List, [], ◌∷◌, ◌++◌, length, get_or, refl, sym, ap, subst, ◌∙◌, arith, eqb-true, eq-eqb}
-use Rattle.std.specs.Prelude.{All, AllPairs, Contains, filter, nat_eq, slice_index}
+use Rattle.std.specs.Prelude.{All, AllPairs, Contains, nat_eq, slice_index}
 use Rattle.std.specs.List.{range_with_len, AllWithin}
 use Rattle.std.proofs.lemmas.Bool.{cases_lt, cases_eq}
 use Rattle.std.proofs.lemmas.Option.{slice_get-get_or}

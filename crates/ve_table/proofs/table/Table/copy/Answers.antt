@@ -1,4 +1,4 @@
-use Rattle.std.proofs.Common.{refl, ap, ◌∙◌, length, get_or, [], arith}
+use Rattle.std.proofs.Common.{refl, ap, length, get_or, [], arith}
 use Rattle.ve_table.specs.declared.table.Table.TheInside.{Inside}
 use Rattle.ve_table.proofs.Copying.{same_parts, same_reaches}
 use Rattle.ve_table.proofs.Grown.{kept_with_room}
