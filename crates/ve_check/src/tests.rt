@@ -21,7 +21,7 @@ struct Case {
     verdict: Verdict,
 }
 
-const CASES: [Case; 4] = [
+const CASES: &[Case] = &[
     Case {
         prime: 2,
         image: 0,

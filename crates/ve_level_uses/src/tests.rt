@@ -41,7 +41,7 @@ const TRIANGLE_COSETS: &str =
 
 const FREE_PAIR: &str = "venum 1\nprime 2\nletter x\nmodule 2\nend\n";
 
-const EXAMPLES: [Example; 12] = [
+const EXAMPLES: &[Example] = &[
     Example {
         text: TWO_CYCLE,
         limit: 3,

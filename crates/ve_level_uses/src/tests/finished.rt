@@ -19,7 +19,7 @@ struct Case {
     row: (u32, u8, u32),
 }
 
-const CASES: [Case; 3] = [
+const CASES: &[Case] = &[
     // The ids are e1, e1*x, e1*x*x.
     Case {
         text: TWO_CYCLE,

@@ -78,7 +78,7 @@ const SECOND_REPAIRS: Event = Event::Hand {
     what: Local::Repair,
 };
 
-const CASES: [Case; 5] = [
+const CASES: &[Case] = &[
     // The job is taken once, and brought by the seat that has it alone.
     Case {
         text: TWO_CYCLE,

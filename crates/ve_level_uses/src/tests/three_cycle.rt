@@ -216,7 +216,7 @@ struct Case {
     disorder: Option<Disorder>,
 }
 
-const CASES: [Case; 6] = [
+const CASES: &[Case] = &[
     Case {
         image: 0,
         first: NEXT,
