@@ -3,7 +3,7 @@
 use super::{Case, is_read_as};
 use std::test::Fail;
 
-const CASES: &[Case] = &[
+const CASES: [Case; 31] = [
     Case {
         name: "a relation",
         text: b"venum 1\nprime 2\nletter x\nmodule 1\nrelation x^2 = 1\nend\n",
@@ -316,7 +316,7 @@ const CASES: &[Case] = &[
 
 #[test]
 fn texts_are_read(rt: HostRuntime) -> Result<(), Fail> {
-    for case in CASES {
+    for case in &CASES {
         assert!(rt; is_read_as(rt.alloc(), case), "{}", case.name);
     }
     Ok(())

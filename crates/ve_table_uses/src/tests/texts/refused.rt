@@ -6,7 +6,7 @@ use std::test::Fail;
 /// A text, and what is told of it.
 type Refusal = (&'static [u8], &'static str);
 
-const THEMES: &[(&str, &[Refusal])] = &[
+const THEMES: [(&str, &[Refusal]); 6] = [
     ("single faults", ROWS),
     ("first faults", ORDER),
     ("faults of tokens", TOKENS),
