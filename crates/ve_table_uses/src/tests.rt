@@ -1,8 +1,7 @@
-//! Elements, vectors, tables and texts at work.
+//! Elements, vectors and tables at work.
 
 mod algebra;
 mod steps;
 mod terms;
-mod texts;
 mod tracing;
 mod vectors;

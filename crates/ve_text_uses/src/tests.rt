@@ -1,3 +1,4 @@
+mod cut;
 mod lines;
 mod made;
 mod runs;
@@ -9,10 +10,10 @@ mod words;
 use std::alloc::Global;
 use ve_word::Memory;
 
-/// Words of the command line.
-fn strings(alloc: Global, words: &[&str]) -> Result<Vec<String>, Memory> {
+/// The words of a command line.
+fn strings(alloc: Global, line: &str) -> Result<Vec<String>, Memory> {
     let mut strings = Vec::new(alloc);
-    for word in words {
+    for word in line.split_whitespace() {
         strings.push(String::from_str(alloc, word)?)?;
     }
     Ok(strings)

@@ -1,9 +1,9 @@
-//! Where texts are cut, and what is told of one that is cut too early.
+//! Where texts are cut, and which beginnings of a text are read.
 
-use super::is_told;
 use std::test::Fail;
-use ve_read::split;
+use ve_read::{read, split};
 
+/// Bytes, and where they are cut: behind the first line that says `end`.
 const CASES: &[(&[u8], usize)] = &[
     (b"", 0),
     (b"\n", 1),
@@ -45,14 +45,17 @@ const CASES: &[(&[u8], usize)] = &[
 const TWO_CYCLE: &[u8] = b"venum 1\nprime 2\nletter x\nmodule 1\nrelation x^2 = 1\nend\n";
 
 #[test]
-fn texts_are_cut_behind_their_end(rt: HostRuntime) -> Result<(), Fail> {
+fn texts_are_cut_behind_their_end(rt: HostRuntime) {
     for (text, place) in CASES {
-        assert_eq!(rt; split(text), *place, "{text:?}");
+        assert!(rt; split(text) == *place, "at {place}");
     }
-    // The last line feed alone is not missed.
+}
+
+// The last line feed alone is not missed.
+#[test]
+fn beginnings_of_a_text_are_refused(rt: HostRuntime) {
     for end in 0..TWO_CYCLE.len() {
-        let is_read = is_told(rt.alloc(), &TWO_CYCLE[..end], "read")?;
-        assert_eq!(rt; is_read, end + 1 == TWO_CYCLE.len());
+        let is_read = read(rt.alloc(), &TWO_CYCLE[..end]).is_ok();
+        assert!(rt; is_read == (end + 1 == TWO_CYCLE.len()), "at {end}");
     }
-    Ok(())
 }
