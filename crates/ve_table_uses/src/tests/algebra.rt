@@ -35,8 +35,7 @@ pub(super) fn element_of(
 {
     let mut sum = FreeAlg::zero(alloc);
     for (coef, letters) in terms {
-        let term = term_of(alloc, field, count, *coef, letters)?;
-        sum = sum.add(field, &term)?;
+        sum = sum.plus(field, term_of(alloc, field, count, *coef, letters)?)?;
     }
     Ok(sum)
 }
@@ -55,8 +54,7 @@ fn term_of(
     let mut product = FreeAlg::constant(alloc, field, field.reduce(u128::from(coef)))?;
     for letter in letters {
         if *letter < count {
-            let factor = FreeAlg::letter(alloc, *letter)?;
-            product = product.mul(field, &factor)?;
+            product = product.mul(field, &FreeAlg::letter(alloc, *letter)?)?;
         }
     }
     Ok(product)
@@ -89,7 +87,7 @@ fn in_module(alloc: Global, field: &Field, element: &FreeAlg) -> Result<FreeMod,
 }
 
 /// Whether the element has these terms, in this order.
-pub(super) fn has_terms(element: &FreeAlg, terms: &[(u8, &[u8])]) -> bool {
+fn has_terms(element: &FreeAlg, terms: &[(u8, &[u8])]) -> bool {
     element.term_count() == terms.len()
         && (0..element.term_count()).all(|at| {
             (element.coef_at(at), element.word_at(at).as_slice()) == terms[at]

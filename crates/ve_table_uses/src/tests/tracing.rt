@@ -191,11 +191,18 @@ fn module_element(
     field.has_prime();
     let mut sum = FreeMod::zero(alloc);
     for (root, terms) in parts {
-        let element = element_of(alloc, field, 2, terms)?;
-        let part = FreeMod::root(alloc, *root)?.times(field, &element)?;
-        sum = sum.add(field, &part)?;
+        sum = sum.plus(field, module_part(alloc, field, *root, terms)?)?;
     }
     Ok(sum)
+}
+
+/// A generator times an element of the algebra.
+fn module_part(alloc: Global, field: &Field, root: u8, terms: Element) -> Result<FreeMod, PresFault>
+    ensures { IfOk result (λ q. IsReduced Shortlex field.now q) }
+{
+    field.has_prime();
+    let element = element_of(alloc, field, 2, terms)?;
+    FreeMod::root(alloc, root)?.times(field, &element)
 }
 
 fn traces_word(

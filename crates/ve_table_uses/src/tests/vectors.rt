@@ -99,11 +99,19 @@ const STEPS: &[Step] = &[
 #[test]
 fn vectors_take_these_steps(rt: HostRuntime) -> Result<(), Fail> {
     let field = Field::new(5).ok_or("no field")?;
-    let mut v = Sparse::zero(rt.alloc());
-    for (at, step) in STEPS.iter().enumerate() {
-        assert!(rt; passes(rt.alloc(), &field, &mut v, step)?, "at {at}");
-    }
+    let passed = take_steps(rt.alloc(), &field, &mut Sparse::zero(rt.alloc()))?;
+    assert!(rt; passed == STEPS.len(), "at {passed}");
     Ok(())
+}
+
+/// How many steps a vector takes before one that it answers otherwise.
+fn take_steps(alloc: Global, field: &Field, v: &mut Sparse) -> Result<usize, Memory> {
+    for (at, step) in STEPS.iter().enumerate() {
+        if !passes(alloc, field, v, step)? {
+            return Ok(at);
+        }
+    }
+    Ok(STEPS.len())
 }
 
 fn passes(alloc: Global, field: &Field, v: &mut Sparse, step: &Step) -> Result<bool, Memory> {
@@ -114,18 +122,12 @@ fn passes(alloc: Global, field: &Field, v: &mut Sparse, step: &Step) -> Result<b
         Step::Add(by, other, wanted) => adds(alloc, field, v, by, other, wanted),
         Step::AddTerm(by, term, wanted) => adds_term(field, v, by, term, wanted),
         Step::Substitute(dead, by, wanted) => substitutes(alloc, field, v, dead, by, wanted),
-        Step::Scale(by, wanted) => {
-            v.scale(field, field.reduce(u128::from(by)));
-            Ok(is_vector(v, wanted))
-        }
-        Step::Copy(wanted) => Ok(is_vector(&v.copy()?, wanted)),
+        Step::Scale(by, wanted) => Ok(scales(field, v, by, wanted)),
+        Step::Copy(wanted) => is_copied(v, wanted),
         Step::Rest(from, wanted) => keeps_rest(v, from, wanted),
-        Step::TakeLeading(wanted) => {
-            let leading = v.leading();
-            Ok(v.take_leading() == leading && is_vector(v, wanted))
-        }
+        Step::TakeLeading(wanted) => Ok(takes_leading(v, wanted)),
         Step::Renumber(numbers, wanted) => renumbers(alloc, field, v, numbers, wanted),
-        Step::Span(by, wanted) => Ok(is_vector(&sum_of_units(alloc, field, by)?, wanted)),
+        Step::Span(by, wanted) => sums_units(alloc, field, by, wanted),
         Step::Row(id, letter, row) => is_only_row(v, id, letter, row),
     }
 }
@@ -175,6 +177,23 @@ fn substitutes(
     Ok(is_vector(v, wanted))
 }
 
+fn scales(field: &Field, v: &mut Sparse, by: u8, wanted: Terms) -> bool
+    requires { IsReduced ◌<◌ field.now v.old }
+{
+    v.scale(field, field.reduce(u128::from(by)));
+    is_vector(v, wanted)
+}
+
+fn is_copied(v: &Sparse, wanted: Terms) -> Result<bool, Memory> {
+    let copy = v.copy()?;
+    Ok(is_vector(&copy, wanted))
+}
+
+fn takes_leading(v: &mut Sparse, wanted: Terms) -> bool {
+    let leading = v.leading();
+    v.take_leading() == leading && is_vector(v, wanted)
+}
+
 fn keeps_rest(v: &mut Sparse, from: usize, wanted: Terms) -> Result<bool, Memory> {
     if from > v.len() {
         return Ok(false);
@@ -219,13 +238,14 @@ fn has_numbers(v: &Sparse, other: &Sparse, numbers: &[u32]) -> bool
     true
 }
 
-/// The sum of the units at 3, 5 and 7, each times a number.
-fn sum_of_units(alloc: Global, field: &Field, by: [u8; 3]) -> Result<Sparse, Memory> {
+/// Sums the units at 3, 5 and 7, each times a number.
+fn sums_units(alloc: Global, field: &Field, by: [u8; 3], wanted: Terms) -> Result<bool, Memory> {
     let mut sum = DenseSum::new(alloc, 2, 7)?;
     sum.add_scaled(field, by[0], &Sparse::unit(alloc, 3));
     sum.add_scaled(field, by[1], &Sparse::unit(alloc, 5));
     sum.add_scaled(field, by[2], &Sparse::unit(alloc, 7));
-    sum.into_sparse(field)
+    let vector = sum.into_sparse(field)?;
+    Ok(is_vector(&vector, wanted))
 }
 
 /// A table with one row.

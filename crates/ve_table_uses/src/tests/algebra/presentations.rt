@@ -1,6 +1,6 @@
 //! Letters and relations of presentations.
 
-ghost use Rattle.std.specs.Prelude.{IfOk};
+ghost use Rattle.std.specs.Prelude.{◌≡◌, IfOk};
 ghost use Rattle.ve_theory.specs.Combinations.{IsReduced};
 ghost use Rattle.ve_theory.specs.Words.{ShortlexLetters};
 ghost use Rattle.ve_pres.specs.Drafts.{IsOpen};
@@ -45,24 +45,40 @@ const ANSWERS: [Result<u8, NameFault>; 7] = [
 #[test]
 fn letters_have_these_answers(rt: HostRuntime) -> Result<(), Fail> {
     let field = Field::new(2).ok_or("no field")?;
-    assert!(rt; weights_stand(rt.alloc(), field)?);
     let mut p = Presentation::new(rt.alloc(), field);
-    assert!(rt; add_letters(&mut p) == ANSWERS);
-    assert!(rt; p.names().count() == 5 && p.names().find("y").is_none());
-    assert!(rt; p.letter_relators() == 4 && p.relator_count() == 4);
-    assert!(rt; p.set_roots(256) == Err(PresFault::Limit(Limit::Roots)) && p.roots() == 1);
-    assert!(rt; p.set_roots(255) == Ok(()) && p.roots() == 255);
+    assert!(rt; add_letters(&mut p) == ANSWERS && has_five_letters(&p));
+    assert!(rt; bounds_generators(&mut p));
+    assert!(rt; weighs(&mut Presentation::weighted(rt.alloc(), field)));
     Ok(())
+}
+
+fn has_five_letters(p: &Presentation) -> bool {
+    p.names().count() == 5
+        && p.names().find("y").is_none()
+        && p.letter_relators() == 4
+        && p.relator_count() == 4
+}
+
+fn bounds_generators(p: &mut Presentation) -> bool
+    requires { IsOpen p.old }
+{
+    p.set_roots(256) == Err(PresFault::Limit(Limit::Roots))
+        && p.roots() == 1
+        && p.set_roots(255) == Ok(())
+        && p.roots() == 255
 }
 
 // A letter of weight 3 and one of weight 1.
 #[tactic(auto, unfolding(ve_theory::specs::Validity::is_name))]
-fn weights_stand(alloc: Global, field: Field) -> Result<bool, NameFault> {
-    let mut p = Presentation::weighted(alloc, field);
-    p.add_letter("x")?;
-    p.add_letter("y")?;
+fn weighs(p: &mut Presentation) -> bool
+    requires open { IsOpen p.old }
+    requires version { p.old.presentation.version ≡ 2 }
+{
+    if p.add_letter("x") != Ok(0) || p.add_letter("y") != Ok(1) {
+        return false;
+    }
     p.weigh(0, 3);
-    Ok(p.weight_of(0) == 3 && p.weight_of(1) == 1 && p.greatest_weight() == 3 && p.d() == 3)
+    p.weight_of(0) == 3 && p.weight_of(1) == 1 && p.greatest_weight() == 3 && p.d() == 3
 }
 
 /// An element, raised to a power and multiplied by a power of the first letter.
@@ -173,23 +189,27 @@ const RELATIONS: &[Step] = &[
 fn relations_have_these_answers(rt: HostRuntime) -> Result<(), Fail> {
     let field = Field::new(3).ok_or("no field")?;
     for (at, steps) in CASES.iter().enumerate() {
-        let failure = first_failure(rt.alloc(), field, steps)?;
-        assert!(rt; failure.is_none(), "step {failure:?} at {at}");
+        let passed = count_passed(rt.alloc(), field, steps)?;
+        assert!(rt; passed == steps.len(), "step {passed} at {at}");
     }
     Ok(())
 }
 
-/// The number of the first step, from 0, that a balanced presentation answers otherwise.
-fn first_failure(alloc: Global, field: Field, steps: &[Step]) -> Result<Option<usize>, PresFault> {
+/// How many steps a balanced presentation takes before one that it answers otherwise.
+fn count_passed(alloc: Global, field: Field, steps: &[Step]) -> Result<usize, PresFault> {
     let mut p = Presentation::weighted(alloc, field);
     p.balance();
     let _answers = add_letters(&mut p);
+    take_steps(alloc, &mut p, steps)
+}
+
+fn take_steps(alloc: Global, p: &mut Presentation, steps: &[Step]) -> Result<usize, PresFault> {
     for (at, step) in steps.iter().enumerate() {
-        if !passes(alloc, &mut p, step)? {
-            return Ok(Some(at));
+        if !passes(alloc, p, step)? {
+            return Ok(at);
         }
     }
-    Ok(None)
+    Ok(steps.len())
 }
 
 fn passes(alloc: Global, p: &mut Presentation, step: &Step) -> Result<bool, PresFault> {

@@ -2,7 +2,7 @@ use super::{is_below, word_of};
 use std::cmp::Ordering;
 use std::cmp::Ordering::{Equal, Greater, Less};
 use std::test::Fail;
-use ve_word::{shortlex, weighted};
+use ve_word::{Word, shortlex, weighted};
 
 // Two words, each a root and letters, and their orders by length and by weight. The letters 0, 1 and 2 weigh 3, 1 and 0.
 const PAIRS: &[(u8, &[u8], u8, &[u8], Ordering, Ordering)] = &[
@@ -27,10 +27,15 @@ fn shorter_or_lighter_words_come_first(rt: HostRuntime) -> Result<(), Fail> {
     for (first_root, first_letters, second_root, second_letters, by_length, by_weight) in PAIRS {
         let first = word_of(rt.alloc(), *first_root, first_letters)?;
         let second = word_of(rt.alloc(), *second_root, second_letters)?;
-        assert!(rt; is_below(&first, weights.len()));
-        assert!(rt; is_below(&second, weights.len()));
-        assert_eq!(rt; shortlex(&first, &second), *by_length);
-        assert_eq!(rt; weighted(&first, &second, &weights), *by_weight);
+        assert!(rt; orders(&first, &second, &weights) == Some((*by_length, *by_weight)));
     }
     Ok(())
+}
+
+/// The orders of two words of letters that have weights.
+fn orders(first: &Word, second: &Word, weights: &Vec<u8>) -> Option<(Ordering, Ordering)> {
+    if !is_below(first, weights.len()) || !is_below(second, weights.len()) {
+        return None;
+    }
+    Some((shortlex(first, second), weighted(first, second, weights)))
 }

@@ -77,25 +77,36 @@ fn a_reader_is_a_source(rt: HostRuntime) {
     }
 }
 
+/// Turns, a piece, the answer, the bytes that were written and how often they were flushed.
+const PUTS: &[(&[Turn], &[u8], Result<(), Failed>, &[u8], u8)] = &[
+    (&[], b"abc", Ok(()), b"abc", 1),
+    (&[], b"", Ok(()), b"", 1),
+    (&[Interrupted, One, Interrupted], b"abc", Ok(()), b"abc", 1),
+    (&[Nothing], b"abc", Err(Failed), b"", 0),
+    (&[One, Nothing], b"abc", Err(Failed), b"a", 0),
+    (&[One, One, Broken], b"abc", Err(Failed), b"ab", 0),
+];
+
 #[test]
 fn a_writer_is_a_sink(rt: HostRuntime) {
-    let table: [(&[Turn], &[u8], Result<(), Failed>, &[u8], u8); 6] = [
-        (&[], b"abc", Ok(()), b"abc", 1),
-        (&[], b"", Ok(()), b"", 1),
-        (&[Interrupted, One, Interrupted], b"abc", Ok(()), b"abc", 1),
-        (&[Nothing], b"abc", Err(Failed), b"", 0),
-        (&[One, Nothing], b"abc", Err(Failed), b"a", 0),
-        (&[One, One, Broken], b"abc", Err(Failed), b"ab", 0),
-    ];
-    for (turns, piece, answer, bytes, flushed) in table {
+    for (turns, piece, answer, bytes, flushed) in PUTS {
         let (mut written, mut flushes) = (Vec::new(rt.alloc()), 0);
-        let mut sink = ToWrite::new(Script {
-            turns,
-            written: &mut written,
-            flushes: &mut flushes,
-        });
-        assert_eq!(rt; sink.put(piece), answer, "{turns:?}");
-        assert_eq!(rt; written.as_slice(), bytes, "{turns:?}");
-        assert_eq!(rt; flushes, flushed, "{turns:?}");
+        let found = put(turns, &mut written, &mut flushes, piece);
+        let left = (found, written.as_slice(), flushes);
+        assert!(rt; left == (*answer, *bytes, *flushed), "{turns:?}");
     }
+}
+
+fn put(
+    turns: &[Turn],
+    written: &mut Vec<u8>,
+    flushes: &mut u8,
+    piece: &[u8],
+) -> Result<(), Failed> {
+    let mut sink = ToWrite::new(Script {
+        turns,
+        written,
+        flushes,
+    });
+    sink.put(piece)
 }

@@ -111,8 +111,8 @@ fn has_difference(alloc: Global, presentation: &Presentation, row: &Row) -> bool
 #[test]
 fn relations_have_these_differences(rt: HostRuntime) -> Result<(), Fail> {
     let presentation = presentation(rt.alloc()).ok_or("no presentation")?;
-    for row in RELATIONS {
-        assert!(rt; has_difference(rt.alloc(), &presentation, row), "{row:?}");
+    for (at, row) in RELATIONS.iter().enumerate() {
+        assert!(rt; has_difference(rt.alloc(), &presentation, row), "at {at}");
     }
     Ok(())
 }

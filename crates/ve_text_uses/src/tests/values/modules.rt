@@ -6,7 +6,13 @@ use ve_value::{ValueFault, is_module_expression, module_difference_of};
 
 // Submodule relations and the terms of their differences, each a coefficient, a generator and letters; or the first fault of
 // the left side, or else of the right one; or none, where the left side is no expression of the module.
-const RELATIONS: &[(&str, &str, Option<Result<&[(u8, u8, &[u8])], ValueFault>>)] = &[
+type Row = (
+    &'static str,
+    &'static str,
+    Option<Result<&'static [(u8, u8, &'static [u8])], ValueFault>>,
+);
+
+const RELATIONS: &[Row] = &[
     ("e1", "e2", Some(Ok(&[(4, 1, &[]), (1, 0, &[])]))),
     ("- e1 + e2", "0", Some(Ok(&[(1, 1, &[]), (4, 0, &[])]))),
     ("2*e1*x - e2", "0", Some(Ok(&[(2, 0, &[0]), (4, 1, &[])]))),
@@ -74,15 +80,13 @@ fn is(element: &FreeMod, terms: &[(u8, u8, &[u8])]) -> bool {
         })
 }
 
-// Whether the difference is as it should be.
-fn agrees(
-    found: &Option<Result<FreeMod, ValueFault>>,
-    expected: &Option<Result<&[(u8, u8, &[u8])], ValueFault>>,
-) -> bool {
-    match (found, expected) {
+// Whether the difference is as the row says.
+fn has_difference(alloc: Global, presentation: &Presentation, row: &Row) -> bool {
+    let (left, right, expected) = row;
+    match (difference(alloc, presentation, left, right), expected) {
         (None, None) => true,
-        (Some(Ok(element)), Some(Ok(terms))) => is(element, terms),
-        (Some(Err(fault)), Some(Err(expected))) => *fault == *expected,
+        (Some(Ok(element)), Some(Ok(terms))) => is(&element, terms),
+        (Some(Err(fault)), Some(Err(expected))) => fault == *expected,
         _ => false,
     }
 }
@@ -90,9 +94,8 @@ fn agrees(
 #[test]
 fn submodule_relations_have_these_differences(rt: HostRuntime) -> Result<(), Fail> {
     let presentation = presentation(rt.alloc()).ok_or("no presentation")?;
-    for (left, right, expected) in RELATIONS {
-        let found = difference(rt.alloc(), &presentation, left, right);
-        assert!(rt; agrees(&found, expected), "{left} = {right}");
+    for (at, row) in RELATIONS.iter().enumerate() {
+        assert!(rt; has_difference(rt.alloc(), &presentation, row), "at {at}");
     }
     Ok(())
 }

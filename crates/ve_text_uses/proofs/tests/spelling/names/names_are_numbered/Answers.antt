@@ -2,6 +2,6 @@ use Rattle.std.proofs.Common.{refl}
 use Rattle.ve_theory.specs.Validity.{is_name}
 use Rattle.ve_text_uses.proofs.tests.spelling.names.names_are_numbered.Goals as goal
 
-pub add_each-requires : goal.add_each-requires
+pub adds-requires : goal.adds-requires
 unfolding is_name
-add_each-requires g c = refl
+adds-requires g c = refl
