@@ -1,5 +1,5 @@
 -- A run where nothing fails ends with what is due to its text.
-use Rattle.std.specs.Prelude.{◌≡◌, ℕ, ◌+◌, ◌<◌, ◌≤◌, ◌⊎◌, Bool, List, [], ◌∷◌, ◌++◌, length, codes, drop, take, Option, Some, None, IfSome, refl, Result, Ok, Err, OnOk, OnErr, IfErr}
+use Rattle.std.specs.Prelude.{◌≡◌, ℕ, ◌+◌, ◌<◌, ◌≤◌, ◌⊎◌, Bool, List, [], ◌++◌, length, drop, take, Option, Some, None, IfSome, refl, Result, Ok, Err, OnOk, OnErr, IfErr}
 use Rattle.std.specs.Io.KnownBytes.{prepend_known}
 use Rattle.std.proofs.Common.{ap, sym, subst, ◌∙◌, inl, inr, arith, append-nil, length-append}
 use Rattle.ve_theory.specs.Presentations.{Presentation, IsPresentation}
@@ -26,7 +26,7 @@ use Rattle.ve_main.specs.declared.stop.Stop.TheVariants.{Words, TooLong, Refused
 use Rattle.ve_main.specs.Commands.{IsReading, HasLimit, IsShowing, IsChecking, CanMake, CannotMake, Enumerates, Shows}
 use Rattle.ve_main.specs.Stops.{status_of, message_of, stop_of_words}
 use Rattle.ve_main.specs.Refusals.{IsRefused}
-use Rattle.ve_main.specs.Claims.{IsClaim, IsCut, IsNoAnswer, IsNoClaim, no_presentation, no_answer, Judges, verdict_status}
+use Rattle.ve_main.specs.Claims.{IsClaim, IsCut, IsNoClaim, no_presentation, no_answer, Judges, verdict_status}
 use Rattle.ve_main.specs.Ending.{most_input, TakesAll, TakesTooMany, TakesClaim, TakesPresentation, TakesFew, Refuses, StopsTakingText, StopsWriting, Streams, Calls, Performs, Finishes, Because, BecauseOf, IsDue, too_long, refused, finished, outgrown, shown, checked, made, not_made, IsServed, Tells}
 use Rattle.ve_main.proofs.Endings.{never_both}
 use Rattle.ve_main.proofs.Reading.{few_all}
@@ -388,12 +388,25 @@ stopped_command command E old new calls count few Output ((status, text, called,
 stopped_command command E old new calls count few Memory (same, inl nothing) = (count, same, few, inl nothing)
 stopped_command command E old new calls count few Memory (same, inr (status, text, called, gains)) = (count, same, few, inr (status, text, calls status text called, gains))
 
-pub stopped_enumeration : {X : Type 0} (command : Command) (summary : Bool) (limit : ℕ) (old new : Streams) (P : Presentation) → TakesPresentation old.source new.source P
-    → ((status : ℕ) (text : List ℕ) → Enumerates P limit summary status text → Calls command old.source new.source status text)
-    → (r : Result X Stop) → IfErr r (StopsWriting (Enumerates P limit summary) old.out new.out) → IfErr r (λ stop. BecauseOf stop command old new)
-stopped_enumeration command summary limit old new P taken calls r h =
-    IfErr-weaker r _ _ (λ stop stops. stopped_command command (Enumerates P limit summary) old new calls taken.takes.gives.count
+pub stopped_enumeration : {X : Type 0} (limit : ℕ) (summary : Bool) (old new : Streams) (P : Presentation) → TakesPresentation old.source new.source P
+    → (r : Result X Stop) → IfErr r (StopsWriting (Enumerates P limit summary) old.out new.out) → IfErr r (λ stop. BecauseOf stop (Alone limit summary) old new)
+stopped_enumeration limit summary old new P taken r h =
+    IfErr-weaker r _ _ (λ stop stops. stopped_command (Alone limit summary) (Enumerates P limit summary) old new (λ status text called. (P, taken, called)) taken.takes.gives.count
     (few_all old.source new.source taken.bytes taken.takes) stop stops) h
+
+-- what is asked of threads stops as what is asked of one
+because_shared : (workers limit : ℕ) (summary : Bool) (old new : Streams) (stop : Stop) → BecauseOf stop (Alone limit summary) old new → BecauseOf stop (Shared workers limit summary) old new
+because_shared workers limit summary old new Words h = h
+because_shared workers limit summary old new TooLong h = h
+because_shared workers limit summary old new (Refused message) h = h
+because_shared workers limit summary old new NoPresentation h = h
+because_shared workers limit summary old new Source h = h
+because_shared workers limit summary old new Output h = h
+because_shared workers limit summary old new Memory h = h
+
+pub stopped_shared : {X : Type 0} (workers limit : ℕ) (summary : Bool) (old new : Streams) (r : Result X Stop) → IfErr r (λ stop. BecauseOf stop (Alone limit summary) old new)
+    → IfErr r (λ stop. BecauseOf stop (Shared workers limit summary) old new)
+stopped_shared workers limit summary old new r h = IfErr-weaker r _ _ (because_shared workers limit summary old new) h
 
 pub stopped_show : {X : Type 0} (old new : Streams) (P : Presentation) → TakesPresentation old.source new.source P
     → (r : Result X Stop) → IfErr r (StopsWriting (Shows P) old.out new.out) → IfErr r (λ stop. BecauseOf stop Show old new)

@@ -1,5 +1,6 @@
 ghost use Rattle.std.specs.Prelude.{◌≡◌, ◌≤◌, ℕ, map, string_bytes, IfErr, IfOk};
 ghost use Rattle.ve_levels.specs.Advancing.{most_limit};
+ghost use Rattle.ve_words.specs.declared.command.Command.TheVariants.{Alone, Check, Show};
 ghost use Rattle.ve_main.specs.Commands.{HasLimit};
 ghost use Rattle.ve_main.specs.Ending.{Because, BecauseOf, Ends, Finishes, Performs, ServesAll};
 
@@ -84,26 +85,69 @@ fn perform<S: Source, K: Sink>(
         (record { source = S.input source.new; out = K.output out.new })) }
 {
     match command {
-        Command::Alone { limit, summary } => {
-            let presentation = take_presentation(alloc, source)?;
-            write_enumeration(alloc, presentation, limit, summary, out)
-        }
-        Command::Shared { limit, summary, .. } => {
-            let presentation = take_presentation(alloc, source)?;
-            write_enumeration(alloc, presentation, limit, summary, out)
-        }
-        Command::Show => {
-            let presentation = take_presentation(alloc, source)?;
-            write_shown(alloc, &presentation, out)
-        }
-        Command::Check => {
-            let claim = take_claim(alloc, source)?;
-            write_verdict(alloc, &claim, out)
-        }
+        Command::Alone { limit, summary } => answer_presentation(
+            alloc, limit, summary, source, out,
+        ),
+        // What is asked of threads is done on one.
+        Command::Shared { limit, summary, .. } => answer_presentation(
+            alloc, limit, summary, source, out,
+        ),
+        Command::Show => show_presentation(alloc, source, out),
+        Command::Check => check_claim(alloc, source, out),
         Command::Make {
             points,
             node,
             prime,
         } => write_made(alloc, points, node, prime, out),
     }
+}
+
+/// Answers the presentation that is read.
+fn answer_presentation<S: Source, K: Sink>(
+    alloc: Global,
+    limit: u32,
+    summary: bool,
+    source: &mut S,
+    out: &mut K,
+) -> Result<u8, Stop>
+    requires { limit ≤ most_limit }
+    ensures finished { IfOk result (Performs (Alone limit summary)
+        (record { source = S.input source.old; out = K.output out.old })
+        (record { source = S.input source.new; out = K.output out.new })) }
+    ensures stopped { IfErr result (λ stop. BecauseOf stop (Alone limit summary)
+        (record { source = S.input source.old; out = K.output out.old })
+        (record { source = S.input source.new; out = K.output out.new })) }
+{
+    let presentation = take_presentation(alloc, source)?;
+    write_enumeration(alloc, presentation, limit, summary, out)
+}
+
+/// Shows the presentation that is read.
+fn show_presentation<S: Source, K: Sink>(
+    alloc: Global,
+    source: &mut S,
+    out: &mut K,
+) -> Result<u8, Stop>
+    ensures finished { IfOk result (Performs Show
+        (record { source = S.input source.old; out = K.output out.old })
+        (record { source = S.input source.new; out = K.output out.new })) }
+    ensures stopped { IfErr result (λ stop. BecauseOf stop Show
+        (record { source = S.input source.old; out = K.output out.old })
+        (record { source = S.input source.new; out = K.output out.new })) }
+{
+    let presentation = take_presentation(alloc, source)?;
+    write_shown(alloc, &presentation, out)
+}
+
+/// Judges the claim that is read.
+fn check_claim<S: Source, K: Sink>(alloc: Global, source: &mut S, out: &mut K) -> Result<u8, Stop>
+    ensures finished { IfOk result (Performs Check
+        (record { source = S.input source.old; out = K.output out.old })
+        (record { source = S.input source.new; out = K.output out.new })) }
+    ensures stopped { IfErr result (λ stop. BecauseOf stop Check
+        (record { source = S.input source.old; out = K.output out.old })
+        (record { source = S.input source.new; out = K.output out.new })) }
+{
+    let claim = take_claim(alloc, source)?;
+    write_verdict(alloc, &claim, out)
 }
