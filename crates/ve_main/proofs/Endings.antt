@@ -1,8 +1,8 @@
 -- Endings exclude each other, and levels are reached one after another.
-use Rattle.std.proofs.Common.{◌≡◌, ℕ, zero, suc, ◌+◌, ◌*◌, ◌-◌, ◌<◌, ◌≤◌, ◌⊎◌, inl, inr, Contains, sym, ap, ◌∙◌, subst, refl, arith, mul-le-mul_left, mul-suc}
+use Rattle.std.proofs.Common.{◌≡◌, ℕ, zero, suc, ◌+◌, ◌*◌, ◌<◌, ◌≤◌, ◌⊎◌, inl, inr, Contains, sym, ap, ◌∙◌, subst, refl, arith, mul-le-mul_left, mul-suc}
 use Rattle.std.proofs.lemmas.Bool.{cases_lt}
 use Rattle.ve_theory.specs.Words.{word_length}
-use Rattle.ve_theory.specs.Presentations.{Presentation, IsPresentation, reach, before, greatest_step, relator_bound, submodule_bound}
+use Rattle.ve_theory.specs.Presentations.{Presentation, IsPresentation, before, greatest_step, relator_bound, submodule_bound}
 use Rattle.ve_theory.specs.Levels.{HasSize, Closes, FitsLimit, IsOutgrown, IsFinishedAt}
 use Rattle.ve_theory.specs.Laws.{HasBounds, ListsAreUnique}
 use Rattle.ve_theory.proofs.LevelBounds.{place_of_normal, reach_of_length}

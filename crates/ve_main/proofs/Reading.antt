@@ -1,5 +1,5 @@
 -- The input, taken piece by piece.
-use Rattle.std.specs.Prelude.{◌≡◌, ℕ, ◌+◌, ◌<◌, ◌≤◌, List, [], ◌++◌, length, drop, take, IfSome, refl}
+use Rattle.std.specs.Prelude.{◌≡◌, ℕ, ◌+◌, ◌≤◌, List, length, drop, take}
 use Rattle.std.specs.Io.KnownBytes.{prepend_known}
 use Rattle.std.proofs.Common.{ap, sym, subst, ◌∙◌, arith, length-append}
 use Rattle.ve_port.specs.Count.{HasRisen}
@@ -12,7 +12,7 @@ use Rattle.ve_formats.specs.AnswerReading.{ShowsAnswer}
 use Rattle.ve_main.specs.Refusals.{IsRefused}
 use Rattle.ve_main.specs.Claims.{IsClaim, IsCut, IsNoAnswer, IsNoClaim, no_presentation, no_answer}
 use Rattle.ve_main.specs.Ending.{StopsTaking, StopsReading, StopsReadingText, StopsTakingText, TakesFew, TakesAll}
-use Rattle.ve_port.specs.Source.{Input, Gives, Fails, Gives-nil, Gives-append}
+use Rattle.ve_port.specs.Source.{Input, Gives, Gives-nil, Gives-append}
 
 -- these bytes were taken, at most one more than an input may have; the buffer keeps its room
 pub record HasTaken (old now : Input) (text buffer : List ℕ) : Type 0 where

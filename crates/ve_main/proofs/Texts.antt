@@ -1,6 +1,6 @@
 -- What is written, and what stops it.
-use Rattle.std.specs.Prelude.{◌≡◌, ℕ, ◌⊎◌, Bool, List, cond}
-use Rattle.std.proofs.Common.{refl, ap, sym, subst, ◌∙◌, inl, inr}
+use Rattle.std.specs.Prelude.{◌≡◌, ℕ, Bool, List, cond}
+use Rattle.std.proofs.Common.{refl, sym, subst, inl, inr}
 use Rattle.ve_port.specs.declared.fault.OutFault.{OutFault}
 use Rattle.ve_port.specs.declared.fault.OutFault.TheVariants.{Sink, Memory as NoMemory}
 use Rattle.ve_port.specs.Sink as Sinks
@@ -8,7 +8,7 @@ use Rattle.ve_port.specs.Sink.{Gains}
 use Rattle.ve_port.specs.Writing.{Stops}
 use Rattle.ve_theory.specs.Presentations.{Presentation}
 use Rattle.ve_theory.specs.Levels.{IsFinishedAt, IsOutgrown}
-use Rattle.ve_theory.specs.Answers.{Answer, IsAnswer, IsModuleAnswer}
+use Rattle.ve_theory.specs.Answers.{Answer, IsModuleAnswer}
 use Rattle.ve_theory.specs.Laws.{DecidesModule}
 use Rattle.ve_formats.specs.AnswerText.{answer_text}
 use Rattle.ve_formats.specs.SummaryText.{summary_text}
@@ -17,7 +17,7 @@ use Rattle.ve_make.specs.Symmetric.{IsMade, symmetric_presentation}
 use Rattle.ve_main.specs.declared.stop.Stop.{Stop}
 use Rattle.ve_main.specs.declared.stop.Stop.TheVariants.{Words, TooLong, Refused, NoPresentation, Input, Output, Memory}
 use Rattle.ve_main.specs.Stops.{stop_of}
-use Rattle.ve_main.specs.Commands.{Enumerates, IsAnswerText, IsOverText, Shows, ShowsMade}
+use Rattle.ve_main.specs.Commands.{Enumerates, Shows, ShowsMade}
 use Rattle.ve_main.specs.Ending.{StopsWriting, StopsMaking, WritesText, BeginsText}
 
 -- a writing that stopped, of a text that is called for

@@ -1,5 +1,4 @@
-use Rattle.std.proofs.Common.{◌≡◌, ◌+◌, ◌*◌, ◌<◌, ◌≤◌, arith, refl, sym, ap, subst, ◌∙◌}
-use Rattle.ve_theory.specs.Presentations.{greatest_step, relator_bound, submodule_bound}
+use Rattle.std.proofs.Common.{◌≡◌, ◌+◌, arith, sym, subst, ◌∙◌}
 use Rattle.ve_theory.specs.Levels.{FitsLimit}
 use Rattle.ve_main.proofs.Endings.{first_level, next_level, closed_level, over_level, outgrown_start, reached_level}
 use Rattle.ve_main.proofs.enumeration.enumerate.Goals as goal

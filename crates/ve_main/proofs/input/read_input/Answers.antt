@@ -1,7 +1,7 @@
 use Rattle.std.proofs.Common.{arith}
 use Rattle.std.proofs.lemmas.List.{length-take}
 use Rattle.std.proofs.lemmas.Result.{err_from_is_err_and}
-use Rattle.ve_main.proofs.Reading.{StopsReading-after, few_nothing}
+use Rattle.ve_main.proofs.Reading.{StopsReading-after}
 use Rattle.ve_main.proofs.input.read_input.Goals as goal
 
 pub returns-in_err-take_piece-clause-stopped : goal.returns-in_err-take_piece-clause-stopped
